@@ -1,0 +1,80 @@
+-- Demand 3: "What follows is one claim about the whole list." Each field is a sentence of the paper, by addresses of the book and by the tally.
+-- Assumes nothing.
+use mathlib.Core.Path.{_≡_}
+use mathlib.Core.Bool.{Bool, true, false, cond}
+use mathlib.Core.List.{List, [], _∷_}
+use mathlib.Core.Logic.{_≢_}
+use Prim.Native.Nat.{ℕ, _+_, _-_, _*_, _≤_}
+use lib.Dec.{ltb}
+use lib.IntN.{ℤ, pos, _+ℤ_, _-ℤ_}
+use lib.ListN.{length, getD}
+use Rattle.model.specs.declared.Dims.{Dims}
+use Rattle.model.specs.Layout.{shapes}
+use Rattle.model.specs.Store.{get, num}
+use Rattle.model.specs.Rows.{historyCount, warehouseYtd, districtYtd, nextOrder, balance, ytdPayment, onHand, stockYtd, waiting, historyCol}
+use Rattle.model.specs.Head.{dims}
+use Rattle.model.specs.Opening.{openingFault}
+use Rattle.model.specs.Request.{Request}
+use Rattle.model.specs.Tally.{Tally, Done, Paid, N, M, charged, openedOf, start, tally, afterAll, doneAll}
+
+-- x is one of 1, .., n
+pub record R (n x : ℕ) : Type 0 where
+  pub lo : 1 ≤ x
+  pub hi : x ≤ n
+
+-- "the history rows up to it are those payments in list order, all seven fields"
+pub record HistoryIs (d : Dims) (b : List ℤ) (h : ℕ) (p : Paid) : Type 0 where
+  pub customer : get (shapes d) b (historyCol h 0) ≡ pos (p .customer)
+  pub custdistrict : get (shapes d) b (historyCol h 1) ≡ pos (p .request .custdistrict)
+  pub custwarehouse : get (shapes d) b (historyCol h 2) ≡ pos (p .request .custwarehouse)
+  pub district : get (shapes d) b (historyCol h 3) ≡ pos (p .request .district)
+  pub warehouse : get (shapes d) b (historyCol h 4) ≡ pos (p .request .warehouse)
+  pub date : get (shapes d) b (historyCol h 5) ≡ pos (p .request .date)
+  pub amount : get (shapes d) b (historyCol h 6) ≡ pos (p .request .amount)
+
+-- "on hand and (opening − lots to date) differ by a multiple of 91": hand = opening − lots + 91 · times
+pub record Restocked (opening lots : ℕ) (hand : ℤ) : Type 0 where
+  pub left : ℕ
+  pub times : ℕ
+  pub is : hand ≡ pos left
+  pub sum : left + lots ≡ opening + 91 * times
+
+-- no payment at all: stands where a list is too short
+abbrev pub noPaid : Paid
+noPaid = record { request = record { warehouse = 0; district = 0; custwarehouse = 0; custdistrict = 0; date = 0; amount = 0 }; customer = 0 }
+
+-- b₀ is the opening book, t the tally of the list, b the book after it
+pub record Claim (d : Dims) (b₀ : List ℤ) (t : Tally) (b : List ℤ) : Type 0 where
+  -- "to-date money of depots and districts equals the tally"
+  pub warehouse-money : (w : ℕ) → R (d .warehouses) w → get (shapes d) b (warehouseYtd w) ≡ pos (t .warehouse w)
+  pub district-money : (w k : ℕ) → R (d .warehouses) w → R 10 k → get (shapes d) b (districtYtd w k) ≡ pos (t .district w k)
+  -- "a balance equals the sums of that customer's orders numbered 1 to M less its payments"
+  pub balances : (w k c : ℕ) → R (d .warehouses) w → R 10 k → R (d .customers) c
+      → get (shapes d) b (balance w k c) ≡ pos (charged t w k c) -ℤ pos (t .paid w k c)
+  -- "and balance plus payments to date is the first part alone"
+  pub balances-paid : (w k c : ℕ) → R (d .warehouses) w → R 10 k → R (d .customers) c
+      → get (shapes d) b (balance w k c) +ℤ get (shapes d) b (ytdPayment w k c) ≡ pos (charged t w k c)
+  -- "next order number is N + 1"
+  pub next-orders : (w k : ℕ) → R (d .warehouses) w → R 10 k → get (shapes d) b (nextOrder w k) ≡ pos (N t w k + 1)
+  -- "waiting orders are exactly M + 1 to N"
+  pub waiting-orders : (w k o : ℕ) → R (d .warehouses) w → R 10 k → R (N t w k) o
+      → get (shapes d) b (waiting d w k o) ≡ pos (cond (ltb (M t w k) o) 1 0)
+  pub delivered-first : (w k : ℕ) → R (d .warehouses) w → R 10 k → M t w k ≤ N t w k
+  -- "lots to date equal the tally"
+  pub lots : (w i : ℕ) → R (d .warehouses) w → R (d .items) i → get (shapes d) b (stockYtd w i) ≡ pos (t .lots w i)
+  -- "the history count is the number of committed payments"
+  pub history-count : get (shapes d) b historyCount ≡ pos (length (t .payments))
+  pub history-rows : (h : ℕ) → R (length (t .payments)) h → HistoryIs d b h (getD (t .payments) (h - 1) noPaid)
+  pub on-hand : (w i : ℕ) → R (d .warehouses) w → R (d .items) i
+      → Restocked (num (shapes d) b₀ (onHand w i)) (t .lots w i) (get (shapes d) b (onHand w i))
+
+-- "Numbers 2, 3 and 9 below are never answered by the calls of such a list."
+abbrev pub Never : List Done → Type 0
+Never [] = Unit {0}
+Never (x ∷ xs) = (x .number ≢ 2) × ((x .number ≢ 3) × ((x .number ≢ 9) × Never xs))
+
+-- "Take any list of the five calls .., refused ones included, from a book that opening has just accepted."
+abbrev pub Demand : Type 0
+Demand =
+    (b : List ℤ) (names : List ℕ) → openingFault b names .number ≡ 0 → (rs : List Request)
+    → Claim (dims b) b (tally (openedOf b names) (doneAll b names rs) start) (afterAll b names rs) × Never (doneAll b names rs)

@@ -1,0 +1,38 @@
+-- The head, and refusal 2.
+-- Assumes nothing.
+use mathlib.Core.Bool.{Bool}
+use mathlib.Core.List.{List, [], _∷_}
+use Prim.Native.Nat.{ℕ}
+use lib.Dec.{leb, eqb}
+use lib.ListN.{length}
+use lib.IntN.{ℤ}
+use Rattle.model.specs.declared.Dims.{Dims}
+use Rattle.model.specs.Tests.{every}
+use Rattle.model.specs.Numbers.{cell}
+use Rattle.model.specs.Layout.{numbers, nameBytes}
+
+-- the five numbers of the head that fix the size
+unfoldable pub dims : List ℤ → Dims
+dims b = record { warehouses = cell b 0; customers = cell b 1; items = cell b 2; orders = cell b 3; histories = cell b 4 }
+
+unfoldable pub dimsTests : Dims → List Bool
+dimsTests d =
+    leb 1 (d .warehouses)
+    ∷ leb (d .warehouses) 20
+    ∷ leb 1 (d .customers)
+    ∷ leb (d .customers) 3000
+    ∷ leb 1 (d .items)
+    ∷ leb (d .items) 100000
+    ∷ leb 1 (d .orders)
+    ∷ leb (d .orders) 10000
+    ∷ leb 1 (d .histories)
+    ∷ leb (d .histories) 1000000
+    ∷ []
+
+-- the history count, and both lengths; n is the number of name bytes
+unfoldable pub sizeTests : Dims → List ℤ → ℕ → List Bool
+sizeTests d b n = leb (cell b 5) (d .histories) ∷ eqb (length b) (numbers d) ∷ eqb n (nameBytes d) ∷ []
+
+-- 2: "The slice has under 6 numbers, a head number is out of range, or a length differs from what the head implies."
+unfoldable pub headOk : List ℤ → ℕ → Bool
+headOk b n = every (leb 6 (length b) ∷ every (dimsTests (dims b)) ∷ every (sizeTests (dims b) b n) ∷ [])

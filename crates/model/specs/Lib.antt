@@ -1,0 +1,21 @@
+-- The rules of document 01, in its order.
+pub mod Tests
+pub mod Numbers
+pub mod Layout
+pub mod Store
+pub mod Rows
+pub mod Head
+pub mod Names
+pub mod Lists
+pub mod Used
+pub mod Answer
+pub mod Opening
+pub mod NewOrder
+pub mod Payment
+pub mod Delivery
+pub mod OrderStatus
+pub mod StockLevel
+pub mod Request
+pub mod RequestLine
+pub mod Tally
+pub mod Claim

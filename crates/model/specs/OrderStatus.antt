@@ -1,0 +1,74 @@
+-- "Order-Status (depot, district, who)."
+-- Assumes nothing.
+use mathlib.Core.Bool.{Bool, true, false, cond}
+use mathlib.Core.List.{List, [], _∷_, _++_}
+use Prim.Native.Nat.{ℕ, zero, suc, _-_, _*_}
+use lib.Dec.{leb, eqb}
+use lib.IntN.{ℤ, pos}
+use lib.ListN.{length, take, drop}
+use Rattle.model.specs.declared.Dims.{Dims}
+use Rattle.model.specs.declared.OrderStatus.{OrderStatus}
+use Rattle.model.specs.declared.Refusal.{Refusal}
+use Rattle.model.specs.Tests.{every, Check, chk, fault}
+use Rattle.model.specs.Layout.{shapes, place}
+use Rattle.model.specs.Store.{get, num}
+use Rattle.model.specs.Rows.{nextOrder, balance, orderCol, orderCustomer, entryDate, carrier, lineCount}
+use Rattle.model.specs.Head.{dims, headOk}
+use Rattle.model.specs.Names.{Who, whoTests, customerOf, isFound, foundNumber}
+use Rattle.model.specs.Lists.{largest}
+use Rattle.model.specs.Used.{districtUsed, whoUsed, ordersUsed}
+use Rattle.model.specs.Answer.{Answer, answerBy, leftBy}
+
+-- what the request decides
+unfoldable pub statusAsked : Dims → OrderStatus → Who → List Check
+statusAsked d q who =
+    chk (every (leb 1 (q .warehouse) ∷ leb (q .warehouse) (d .warehouses) ∷ [])) 4
+    ∷ chk (every (leb 1 (q .district) ∷ leb (q .district) 10 ∷ [])) 5
+    ∷ chk (every (whoTests d who)) 6
+    ∷ []
+
+-- 9: "Order-Status: district, the customer (by name, all), orders before next." 10: "Nobody in the district has the last name"
+unfoldable pub statusUsed : Dims → List ℤ → List ℕ → OrderStatus → Who → List Check
+statusUsed d b names q who =
+    chk (districtUsed d b (q .warehouse) (q .district)) 9
+    ∷ chk (whoUsed d b names (q .warehouse) (q .district) who) 9
+    ∷ chk (ordersUsed d b (q .warehouse) (q .district)) 9
+    ∷ chk (isFound (customerOf d names (q .warehouse) (q .district) who)) 10
+    ∷ []
+
+unfoldable pub statusFault : List ℤ → List ℕ → OrderStatus → Who → Refusal
+statusFault b names q who = fault (chk (headOk b (length names)) 2 ∷ statusAsked (dims b) q who ++ statusUsed (dims b) b names q who)
+
+-- "the largest order number of that customer"; 0 where it has none
+unfoldable pub lastOrder : Dims → List ℤ → ℕ → ℕ → ℕ → ℕ
+lastOrder d b w k c = largest (λ o. eqb (num (shapes d) b (orderCustomer d w k o)) c) (num (shapes d) b (nextOrder w k) - 1)
+
+-- the customer asked about, and its last order
+unfoldable pub statusCustomer : Dims → List ℕ → OrderStatus → Who → ℕ
+statusCustomer d names q who = foundNumber (customerOf d names (q .warehouse) (q .district) who)
+
+unfoldable pub statusOrder : Dims → List ℤ → List ℕ → OrderStatus → Who → ℕ
+statusOrder d b names q who = lastOrder d b (q .warehouse) (q .district) (statusCustomer d names q who)
+
+-- ".. with entry date and carrier" "No order: number, date and carrier 0 and an empty part."
+unfoldable pub orderShown : Dims → List ℤ → ℕ → ℕ → ℕ → List ℤ
+orderShown d b w k zero = pos 0 ∷ pos 0 ∷ pos 0 ∷ []
+orderShown d b w k (suc o) = pos (suc o) ∷ pos (num (shapes d) b (entryDate d w k (suc o))) ∷ pos (num (shapes d) b (carrier d w k (suc o))) ∷ []
+
+-- "its lines are shown as that part of the lent book, not copied": line count times five numbers, from the slot's first line on
+unfoldable pub linesShown : Dims → List ℤ → ℕ → ℕ → ℕ → List ℤ
+linesShown d b w k zero = []
+linesShown d b w k (suc o) = take (num (shapes d) b (lineCount d w k (suc o)) * 5) (drop (place (shapes d) (orderCol d w k (suc o) 6)) b)
+
+-- "Answered: customer, balance, and the largest order number of that customer with entry date and carrier"
+unfoldable pub statusAnswer : List ℤ → List ℕ → OrderStatus → Who → Answer
+statusAnswer b names q who =
+    answerBy (statusFault b names q who)
+    (pos (statusCustomer (dims b) names q who)
+    ∷ get (shapes (dims b)) b (balance (q .warehouse) (q .district) (statusCustomer (dims b) names q who))
+    ∷ orderShown (dims b) b (q .warehouse) (q .district) (statusOrder (dims b) b names q who))
+
+-- "a refused status shows an empty part"
+unfoldable pub statusLines : List ℤ → List ℕ → OrderStatus → Who → List ℤ
+statusLines b names q who =
+    leftBy (statusFault b names q who) (linesShown (dims b) b (q .warehouse) (q .district) (statusOrder (dims b) b names q who)) []

@@ -1,0 +1,88 @@
+-- "Payment (depot, district, customer's depot and district, who, date, amount 100 to 500,000)."
+-- Assumes nothing.
+use mathlib.Core.Bool.{Bool, true, false, cond}
+use mathlib.Core.List.{List, [], _∷_, _++_}
+use Prim.Native.Nat.{ℕ, suc}
+use lib.Dec.{leb, ltb}
+use lib.IntN.{ℤ, pos, _+ℤ_, _-ℤ_}
+use lib.ListN.{length, getD}
+use Rattle.model.specs.declared.Dims.{Dims}
+use Rattle.model.specs.declared.Payment.{Payment}
+use Rattle.model.specs.declared.Refusal.{Refusal}
+use Rattle.model.specs.Tests.{every, Check, chk, fault}
+use Rattle.model.specs.Numbers.{maxDate}
+use Rattle.model.specs.Layout.{shapes}
+use Rattle.model.specs.Store.{get, num, Op, one, row, run}
+use Rattle.model.specs.Rows.{historyCount, warehouseYtd, districtYtd, balance, ytdPayment, paymentCnt, historyRow}
+use Rattle.model.specs.Head.{dims, headOk}
+use Rattle.model.specs.Names.{Who, whoTests, customerOf, isFound, foundNumber}
+use Rattle.model.specs.Used.{warehouseUsed, districtUsed, whoUsed}
+use Rattle.model.specs.Answer.{Answer, answerBy, leftBy}
+
+-- what the request decides
+unfoldable pub payAsked : Dims → Payment → Who → List Check
+payAsked d q who =
+    chk (every (leb 1 (q .warehouse) ∷ leb (q .warehouse) (d .warehouses) ∷ leb 1 (q .custwarehouse) ∷ leb (q .custwarehouse) (d .warehouses) ∷ [])) 4
+    ∷ chk (every (leb 1 (q .district) ∷ leb (q .district) 10 ∷ leb 1 (q .custdistrict) ∷ leb (q .custdistrict) 10 ∷ [])) 5
+    ∷ chk (every (whoTests d who)) 6
+    ∷ chk (every (leb 1 (q .date) ∷ leb (q .date) maxDate ∷ [])) 7
+    ∷ chk (every (leb 100 (q .amount) ∷ leb (q .amount) 500000 ∷ [])) 8
+    ∷ []
+
+-- what the rows and names decide. 9: "Payment: depot, district, the customer, or by name all customers of its district."
+-- 10: "Nobody in the district has the last name". 11: "in Payment the history count is H."
+unfoldable pub payUsed : Dims → List ℤ → List ℕ → Payment → Who → List Check
+payUsed d b names q who =
+    chk (warehouseUsed d b (q .warehouse)) 9
+    ∷ chk (districtUsed d b (q .warehouse) (q .district)) 9
+    ∷ chk (whoUsed d b names (q .custwarehouse) (q .custdistrict) who) 9
+    ∷ chk (isFound (customerOf d names (q .custwarehouse) (q .custdistrict) who)) 10
+    ∷ chk (ltb (num (shapes d) b historyCount) (d .histories)) 11
+    ∷ []
+
+unfoldable pub paymentFault : List ℤ → List ℕ → Payment → Who → Refusal
+paymentFault b names q who = fault (chk (headOk b (length names)) 2 ∷ payAsked (dims b) q who ++ payUsed (dims b) b names q who)
+
+-- the customer who pays
+unfoldable pub payer : Dims → List ℕ → Payment → Who → ℕ
+payer d names q who = foundNumber (customerOf d names (q .custwarehouse) (q .custdistrict) who)
+
+-- customer, its district, its depot, paying district, paying depot, date, amount
+abbrev pub historyNumbers : Payment → ℕ → List ℤ
+historyNumbers q c =
+    pos c
+    ∷ pos (q .custdistrict)
+    ∷ pos (q .custwarehouse)
+    ∷ pos (q .district)
+    ∷ pos (q .warehouse)
+    ∷ pos (q .date)
+    ∷ pos (q .amount)
+    ∷ []
+
+-- "Depot and district money rise, balance falls, payments to date and count rise, a history row is added.": c pays, h rows stood before
+abbrev pub payOps : ℕ → Payment → ℕ → List Op
+payOps h q c =
+    one (warehouseYtd (q .warehouse)) (λ z. z +ℤ pos (q .amount))
+    ∷ one (districtYtd (q .warehouse) (q .district)) (λ z. z +ℤ pos (q .amount))
+    ∷ one (balance (q .custwarehouse) (q .custdistrict) c) (λ z. z -ℤ pos (q .amount))
+    ∷ one (ytdPayment (q .custwarehouse) (q .custdistrict) c) (λ z. z +ℤ pos (q .amount))
+    ∷ one (paymentCnt (q .custwarehouse) (q .custdistrict) c) (λ z. z +ℤ pos 1)
+    ∷ row (historyRow (suc h)) (λ col z. getD (historyNumbers q c) col (pos 0))
+    ∷ one historyCount (λ z. z +ℤ pos 1)
+    ∷ []
+
+unfoldable pub paymentCommit : Dims → List ℤ → Payment → ℕ → List ℤ
+paymentCommit d b q c = run (shapes d) (payOps (num (shapes d) b historyCount) q c) b
+
+-- the balance after the payment
+unfoldable pub paidBalance : Dims → List ℤ → Payment → ℕ → ℤ
+paidBalance d b q c = get (shapes d) b (balance (q .custwarehouse) (q .custdistrict) c) -ℤ pos (q .amount)
+
+-- "Answered: customer, balance."
+unfoldable pub paymentAnswer : List ℤ → List ℕ → Payment → Who → Answer
+paymentAnswer b names q who =
+    answerBy (paymentFault b names q who)
+    (pos (payer (dims b) names q who) ∷ paidBalance (dims b) b q (payer (dims b) names q who) ∷ [])
+
+unfoldable pub paymentBook : List ℤ → List ℕ → Payment → Who → List ℤ
+paymentBook b names q who = leftBy (paymentFault b names q who) (paymentCommit (dims b) b q (payer (dims b) names q who)) b
