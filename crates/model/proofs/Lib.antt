@@ -6,4 +6,7 @@ pub mod Frame
 pub mod InTurn
 pub mod Rewrite
 pub mod Fields
+pub mod ListLaws
+pub mod RuleLaws
+pub mod MarkLaws
 pub mod Cases
