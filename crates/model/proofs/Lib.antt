@@ -9,4 +9,11 @@ pub mod Fields
 pub mod ListLaws
 pub mod RuleLaws
 pub mod MarkLaws
+pub mod RowFacts
+pub mod NameFacts
+pub mod PaymentFacts
+pub mod NewOrderFacts
+pub mod DeliveryFacts
+pub mod StatusFacts
+pub mod StockLevelFacts
 pub mod Cases

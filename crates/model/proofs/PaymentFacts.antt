@@ -1,0 +1,117 @@
+-- What is known where a payment is not refused: cited by the code's proofs and by the theorem.
+-- Assumes nothing.
+use mathlib.Core.Path.{_≡_, refl, sym, ap, _∙_}
+use mathlib.Core.Bool.{Bool, true, false}
+use mathlib.Core.List.{List, [], _∷_, _++_}
+use Prim.Native.Nat.{ℕ, zero, suc, _+_, _≤_, _<_}
+use native.Mathlib.Omega.{arith}
+use lib.Dec.{ltb, leb}
+use lib.ListN.{length}
+use lib.IntN.{ℤ}
+use borrow.Author.Tests.{leb-true, ltb-true}
+use Rattle.model.specs.declared.Dims.{Dims}
+use Rattle.model.specs.declared.Payment.{Payment}
+use Rattle.model.specs.Tests.{every, fault, Check, chk}
+use Rattle.model.specs.Numbers.{maxDate}
+use Rattle.model.specs.Layout.{shapes}
+use Rattle.model.specs.Store.{num}
+use Rattle.model.specs.Head.{dims, headOk}
+use Rattle.model.specs.Names.{Who, whoTests, customerOf}
+use Rattle.model.specs.Rows.{historyCount}
+use Rattle.model.specs.Payment.{payAsked, payUsed, paymentFault, payer, payOps}
+use Rattle.model.specs.Claim.{R}
+use Rattle.model.proofs.TestLaws.{every-each, passed, Passed, numbered, fault-parts}
+use Rattle.model.proofs.Frame.{Fine}
+use Rattle.model.proofs.Fields.{v0, v1, v2, v3, v7, Shaped, head-shaped}
+use Rattle.model.proofs.RowFacts.{WarehouseIn, DistrictIn, CustomerIn, warehouse-in, district-in}
+use Rattle.model.proofs.NameFacts.{who-in, who-used}
+
+-- the request's numbers are in range
+pub record PayAsked (d : Dims) (q : Payment) (who : Who) : Type 0 where
+  pub w : R (d .warehouses) (q .warehouse)
+  pub k : R 10 (q .district)
+  pub cw : R (d .warehouses) (q .custwarehouse)
+  pub ck : R 10 (q .custdistrict)
+  pub who-ok : every (whoTests d who) ≡ true
+  pub date : R 6342969600 (q .date)
+  pub amount-low : 100 ≤ q .amount
+  pub amount-high : q .amount ≤ 500000
+
+-- the rows that a payment reads or changes are in range, and there is room in the history
+pub record PayUsed (d : Dims) (b : List ℤ) (names : List ℕ) (q : Payment) (who : Who) : Type 0 where
+  pub warehouse : WarehouseIn d b (q .warehouse)
+  pub district : DistrictIn d b (q .warehouse) (q .district)
+  pub c : R (d .customers) (payer d names q who)
+  pub customer : CustomerIn d b (q .custwarehouse) (q .custdistrict) (payer d names q who)
+  pub room : num (shapes d) b historyCount < d .histories
+
+pub record PayReady (d : Dims) (b : List ℤ) (names : List ℕ) (q : Payment) (who : Who) : Type 0 where
+  pub shaped : Shaped d b (length names)
+  pub asked : PayAsked d q who
+  pub used : PayUsed d b names q who
+
+pub pay-asked-numbered : (d : Dims) (q : Payment) (who : Who) → numbered (payAsked d q who) ≡ true
+unfolding payAsked
+pay-asked-numbered d q who = refl
+
+pub pay-used-numbered : (d : Dims) (b : List ℤ) (names : List ℕ) (q : Payment) (who : Who) → numbered (payUsed d b names q who) ≡ true
+unfolding payUsed
+pay-used-numbered d b names q who = refl
+
+pub pay-asked : (d : Dims) (q : Payment) (who : Who) → fault (payAsked d q who) .number ≡ 0 → PayAsked d q who
+unfolding payAsked
+pay-asked d q who e =
+    let h = passed (payAsked d q who) refl e in
+    let f4 = every-each (leb 1 (q .warehouse) ∷ leb (q .warehouse) (d .warehouses) ∷ leb 1 (q .custwarehouse) ∷ leb (q .custwarehouse) (d .warehouses) ∷ []) (h .0) in
+    let f5 = every-each (leb 1 (q .district) ∷ leb (q .district) 10 ∷ leb 1 (q .custdistrict) ∷ leb (q .custdistrict) 10 ∷ []) (h .1 .0) in
+    let f7 = every-each (leb 1 (q .date) ∷ leb (q .date) maxDate ∷ []) (h .1 .1 .1 .0) in
+    let f8 = every-each (leb 100 (q .amount) ∷ leb (q .amount) 500000 ∷ []) (h .1 .1 .1 .1 .0) in
+    record {
+      w = record { lo = leb-true _ _ (f4 .0); hi = leb-true _ _ (f4 .1 .0) };
+      k = record { lo = leb-true _ _ (f5 .0); hi = leb-true _ _ (f5 .1 .0) };
+      cw = record { lo = leb-true _ _ (f4 .1 .1 .0); hi = leb-true _ _ (f4 .1 .1 .1 .0) };
+      ck = record { lo = leb-true _ _ (f5 .1 .1 .0); hi = leb-true _ _ (f5 .1 .1 .1 .0) };
+      who-ok = h .1 .1 .0;
+      date = record { lo = leb-true _ _ (f7 .0); hi = leb-true _ _ (f7 .1 .0) };
+      amount-low = leb-true _ _ (f8 .0);
+      amount-high = leb-true _ _ (f8 .1 .0);
+    }
+
+pub pay-used : (d : Dims) (b : List ℤ) (names : List ℕ) (q : Payment) (who : Who) → every (whoTests d who) ≡ true
+    → fault (payUsed d b names q who) .number ≡ 0 → PayUsed d b names q who
+unfolding payUsed payer
+pay-used d b names q who a e =
+    let h = passed (payUsed d b names q who) refl e in
+    let r = who-in d names (q .custwarehouse) (q .custdistrict) who a (h .1 .1 .1 .0) in
+    record {
+      warehouse = warehouse-in d b (q .warehouse) (h .0);
+      district = district-in d b (q .warehouse) (q .district) (h .1 .0);
+      c = r;
+      customer = who-used d names (q .custwarehouse) (q .custdistrict) b who (h .1 .1 .0) r;
+      room = ltb-true _ _ (h .1 .1 .1 .1 .0);
+    }
+
+-- a payment that is not refused
+pub pay-ready : (b : List ℤ) (names : List ℕ) (q : Payment) (who : Who) → paymentFault b names q who .number ≡ 0 → PayReady (dims b) b names q who
+unfolding paymentFault
+pay-ready b names q who e =
+    let h = fault-parts (chk (headOk b (length names)) 2 ∷ []) (payAsked (dims b) q who ++ payUsed (dims b) b names q who) refl e in
+    let r = fault-parts (payAsked (dims b) q who) (payUsed (dims b) b names q who) (pay-asked-numbered (dims b) q who) (h .1) in
+    let a = pay-asked (dims b) q who (r .0) in
+    record {
+      shaped = head-shaped b (length names) (passed (chk (headOk b (length names)) 2 ∷ []) refl (h .0) .0);
+      asked = a;
+      used = pay-used (dims b) b names q who (a .who-ok) (r .1);
+    }
+
+-- every change is at an address of the book
+pub pay-fine : (d : Dims) (q : Payment) (h c : ℕ) → R (d .warehouses) (q .warehouse) → R 10 (q .district) → R (d .warehouses) (q .custwarehouse) → R 10 (q .custdistrict)
+    → R (d .customers) c → h < d .histories → Fine (shapes d) (payOps h q c)
+pay-fine d q h c w k cw ck rc room =
+    (v1 d w 1 (omega arith), tt, (v2 d w k 1 (omega arith), tt, (v3 d cw ck rc 2 (omega arith), tt, (v3 d cw ck rc 3 (omega arith), tt, (v3 d cw ck rc 4 (omega arith), tt, (v7 d (record { lo = omega arith; hi = omega arith }) 0 (omega arith), refl, (v0 d 5 (omega arith), tt, tt)))))))
+
+pub pay-ready-fine : (d : Dims) (b : List ℤ) (names : List ℕ) (q : Payment) (who : Who) → PayReady d b names q who
+    → Fine (shapes d) (payOps (num (shapes d) b historyCount) q (payer d names q who))
+pay-ready-fine d b names q who r =
+    let a = r .asked in
+    pay-fine d q (num (shapes d) b historyCount) (payer d names q who) (a .w) (a .k) (a .cw) (a .ck) (r .used .c) (r .used .room)
