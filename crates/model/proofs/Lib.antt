@@ -9,6 +9,8 @@ pub mod Fields
 pub mod ListLaws
 pub mod RuleLaws
 pub mod MarkLaws
+pub mod DecimalLaws
+pub mod LineLaws
 pub mod RowFacts
 pub mod NameFacts
 pub mod PaymentFacts

@@ -1,0 +1,37 @@
+//! A second, independently made engine for the TPC-C order book of document 01.
+//!
+//! A book is two lent slices, numbers (`&mut [i64]`) and names (`&[u8]`). Every call
+//! takes both, judges the book and the request in document 01's checking order, and
+//! answers either its figures or a refusal with number and detail. A refused call
+//! changes nothing. Identifiers use TPC-C's words; document 01's depot is `warehouse`.
+
+pub mod answer;
+pub mod book_program;
+pub mod checks;
+pub mod delivery;
+pub mod layout;
+pub mod lines;
+pub mod lists;
+pub mod new_order;
+pub mod opening;
+pub mod order_status;
+pub mod payment;
+pub mod ranges;
+pub mod replay;
+pub mod request;
+pub mod rows;
+pub mod stock_level;
+pub mod who;
+
+pub use answer::{
+    DeliveryAnswer, DeliveryFigures, NewOrderFigures, OrderStatusAnswer, OrderStatusFigures,
+    Outcome, PaymentFigures, Refusal, StockLevelFigures,
+};
+pub use delivery::delivery;
+pub use lines::{read_line, write_line};
+pub use new_order::new_order;
+pub use opening::open;
+pub use order_status::order_status;
+pub use payment::payment;
+pub use request::{Delivery, Line, NewOrder, OrderStatus, Payment, Request, StockLevel, Who};
+pub use stock_level::stock_level;

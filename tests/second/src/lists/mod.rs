@@ -1,0 +1,180 @@
+//! Random lists for comparing engines: replay texts, the same for the same seed.
+
+pub mod books;
+pub mod random;
+pub mod requests;
+pub mod stats;
+pub mod texts;
+
+use crate::replay::{hex, print, Lent};
+use random::Random;
+use requests::Asker;
+
+/// Weights of New-Order, Payment, Delivery, Order-Status, Stock-Level.
+const MIXED: [usize; 5] = [35, 25, 12, 16, 12];
+const ORDERS: [usize; 5] = [70, 5, 10, 8, 7];
+const BY_NAME: [usize; 5] = [10, 45, 5, 40, 0];
+const EACH: [usize; 5] = [20, 20, 20, 20, 20];
+
+/// The list with this number of the run with this seed.
+pub fn list(seed: u64, number: u64) -> String {
+    let mixed = Random::new(seed).number() ^ number.wrapping_mul(0xd134_2543_de82_ef95);
+    let random = &mut Random::new(mixed);
+    match random.weighted(&[27, 8, 26, 9, 8, 9, 10, 3]) {
+        0 => opened(random),
+        1 => filled(random),
+        2 => never_opened(random),
+        3 => nearly_fresh(random),
+        4 => damaged_head(random),
+        5 => many_equal_names(random),
+        6 => request_lines(random),
+        _ => chaotic(random),
+    }
+}
+
+/// An opened book and a list of calls.
+fn opened(random: &mut Random) -> String {
+    let layout = books::dimensions(random);
+    let book = books::fresh(random, layout);
+    let mut text = lend(&book.lent);
+    text.push_str("OPEN\n");
+    let count = 6 + random.below(20);
+    ask(random, &mut text, &mut Asker::new(&book, 35), &MIXED, count);
+    text
+}
+
+/// An opened book whose favoured district or history fills up.
+fn filled(random: &mut Random) -> String {
+    let mut layout = books::dimensions(random);
+    if random.percent(70) {
+        layout.order_slots = 1 + random.below(4);
+    }
+    layout.history_slots = 1 + random.below(3);
+    let book = books::fresh(random, layout);
+    let mut text = lend(&book.lent);
+    text.push_str("OPEN\n");
+    let count = 2 * layout.order_slots.min(40) + 6;
+    ask(
+        random,
+        &mut text,
+        &mut Asker::new(&book, 20),
+        &ORDERS,
+        count,
+    );
+    ask(random, &mut text, &mut Asker::new(&book, 20), &MIXED, 6);
+    text
+}
+
+/// A book in use that was never opened, with a few numbers at or past the ends of ranges.
+fn never_opened(random: &mut Random) -> String {
+    let layout = books::dimensions(random);
+    let mut book = books::in_use(random, layout);
+    let times = *random.pick(&[0, 0, 1, 1, 2, 3, 5, 8]);
+    books::damage(random, &mut book, times);
+    let mut text = lend(&book.lent);
+    if random.percent(20) {
+        text.push_str("OPEN\n");
+    }
+    let count = 5 + random.below(12);
+    ask(random, &mut text, &mut Asker::new(&book, 40), &MIXED, count);
+    text
+}
+
+/// A fresh book with one number or name byte changed, to be opened and used all the same.
+fn nearly_fresh(random: &mut Random) -> String {
+    let layout = books::dimensions(random);
+    let mut book = books::fresh(random, layout);
+    match random.below(6) {
+        0 => book.lent.nums[5] = random.between(0, layout.history_slots as i64),
+        _ => books::damage(random, &mut book, 1),
+    }
+    let mut text = lend(&book.lent);
+    text.push_str("OPEN\n");
+    let count = random.below(6);
+    ask(random, &mut text, &mut Asker::new(&book, 50), &MIXED, count);
+    text
+}
+
+/// A damaged head, or a length that does not fit it: every call refuses by 2.
+fn damaged_head(random: &mut Random) -> String {
+    let layout = books::dimensions(random);
+    let mut book = match random.below(2) {
+        0 => books::fresh(random, layout),
+        _ => books::in_use(random, layout),
+    };
+    match random.percent(25).then(|| books::misfit(random)).flatten() {
+        Some(lent) => book.lent = lent,
+        None => books::damage_head(random, &mut book),
+    }
+    let mut text = lend(&book.lent);
+    text.push_str("OPEN\n");
+    ask(random, &mut text, &mut Asker::new(&book, 30), &EACH, 6);
+    text
+}
+
+/// Requests by name where many customers have the same names.
+fn many_equal_names(random: &mut Random) -> String {
+    let layout = books::crowded(random);
+    let mut book = match random.below(2) {
+        0 => books::fresh(random, layout),
+        _ => books::in_use(random, layout),
+    };
+    if random.percent(15) {
+        books::damage(random, &mut book, 2);
+    }
+    let mut text = lend(&book.lent);
+    ask(random, &mut text, &mut Asker::new(&book, 90), &BY_NAME, 14);
+    text
+}
+
+/// Request lines to read and requests to write; the book is not used.
+fn request_lines(random: &mut Random) -> String {
+    let mut text = lend(&Lent::default());
+    for _ in 0..30 {
+        let command = match random.below(2) {
+            0 => texts::read_command(random),
+            _ => texts::write_command(random),
+        };
+        text.push_str(&command);
+        text.push('\n');
+    }
+    text
+}
+
+/// Slices of any lengths with any values.
+fn chaotic(random: &mut Random) -> String {
+    let layout = books::dimensions(random);
+    let mut book = books::fresh(random, layout);
+    book.lent = books::chaos(random);
+    let mut text = lend(&book.lent);
+    text.push_str("OPEN\n");
+    ask(random, &mut text, &mut Asker::new(&book, 30), &EACH, 6);
+    text
+}
+
+fn ask(
+    random: &mut Random,
+    text: &mut String,
+    asker: &mut Asker<'_>,
+    weights: &[usize; 5],
+    count: usize,
+) {
+    for _ in 0..count {
+        let request = asker.request(random, weights);
+        text.push_str(&print::request_tokens(&request));
+        text.push('\n');
+    }
+}
+
+/// The two commands that set the lent slices.
+pub fn lend(lent: &Lent) -> String {
+    let mut text = String::from("SLICE nums");
+    for number in &lent.nums {
+        text.push(' ');
+        text.push_str(&number.to_string());
+    }
+    text.push_str("\nBYTES names ");
+    text.push_str(&hex::token(&lent.names));
+    text.push('\n');
+    text
+}

@@ -1,0 +1,95 @@
+//! What the replay program asks of an engine, and the second engine as one of them.
+
+use super::{hex, sha256};
+use crate::answer::{
+    DeliveryAnswer, NewOrderFigures, OrderStatusAnswer, Outcome, PaymentFigures, StockLevelFigures,
+};
+use crate::request::{Delivery, NewOrder, OrderStatus, Payment, Request, StockLevel};
+
+/// The slices lent to every call, as the call before left them.
+#[derive(Debug, Clone, Default, PartialEq, Eq)]
+pub struct Lent {
+    pub nums: Vec<i64>,
+    pub names: Vec<u8>,
+}
+
+impl Lent {
+    /// The first 12 hex digits of SHA-256 over the slices as text.
+    pub fn fingerprint(&self) -> String {
+        let digest = sha256::digest(&self.hashed_text());
+        hex::write(&digest[..6])
+    }
+
+    /// A line for each slice: numbers with commas between, bytes in lower-case hex.
+    fn hashed_text(&self) -> Vec<u8> {
+        let mut text = Vec::with_capacity(3 * self.nums.len() + 2 * self.names.len() + 16);
+        text.extend_from_slice(b"nums=");
+        for (place, &number) in self.nums.iter().enumerate() {
+            if place > 0 {
+                text.push(b',');
+            }
+            put_number(&mut text, number);
+        }
+        text.extend_from_slice(b"\nnames=");
+        hex::put(&mut text, &self.names);
+        text.push(b'\n');
+        text
+    }
+}
+
+/// Most numbers of a book have one digit; the others take the long way.
+fn put_number(text: &mut Vec<u8>, number: i64) {
+    match number {
+        0..=9 => text.push(b'0' + number as u8),
+        _ => text.extend_from_slice(number.to_string().as_bytes()),
+    }
+}
+
+/// The calls that the replay program drives.
+pub trait Engine {
+    fn open(&mut self, lent: &Lent) -> Outcome<()>;
+    fn new_order(&mut self, lent: &mut Lent, request: &NewOrder) -> Outcome<NewOrderFigures>;
+    fn payment(&mut self, lent: &mut Lent, request: &Payment) -> Outcome<PaymentFigures>;
+    fn delivery(&mut self, lent: &mut Lent, request: &Delivery) -> DeliveryAnswer;
+    fn order_status<'a>(&mut self, lent: &'a Lent, request: &OrderStatus) -> OrderStatusAnswer<'a>;
+    fn stock_level(&mut self, lent: &Lent, request: &StockLevel) -> Outcome<StockLevelFigures>;
+    fn read(&mut self, line: &[u8]) -> Outcome<Request>;
+    fn write(&mut self, request: &Request, buffer: &mut [u8]) -> Outcome<u64>;
+}
+
+/// The engine of this package.
+pub struct SecondEngine;
+
+impl Engine for SecondEngine {
+    fn open(&mut self, lent: &Lent) -> Outcome<()> {
+        crate::open(&lent.nums, &lent.names)
+    }
+
+    fn new_order(&mut self, lent: &mut Lent, request: &NewOrder) -> Outcome<NewOrderFigures> {
+        crate::new_order(&mut lent.nums, &lent.names, request)
+    }
+
+    fn payment(&mut self, lent: &mut Lent, request: &Payment) -> Outcome<PaymentFigures> {
+        crate::payment(&mut lent.nums, &lent.names, request)
+    }
+
+    fn delivery(&mut self, lent: &mut Lent, request: &Delivery) -> DeliveryAnswer {
+        crate::delivery(&mut lent.nums, &lent.names, request)
+    }
+
+    fn order_status<'a>(&mut self, lent: &'a Lent, request: &OrderStatus) -> OrderStatusAnswer<'a> {
+        crate::order_status(&lent.nums, &lent.names, request)
+    }
+
+    fn stock_level(&mut self, lent: &Lent, request: &StockLevel) -> Outcome<StockLevelFigures> {
+        crate::stock_level(&lent.nums, &lent.names, request)
+    }
+
+    fn read(&mut self, line: &[u8]) -> Outcome<Request> {
+        crate::read_line(line)
+    }
+
+    fn write(&mut self, request: &Request, buffer: &mut [u8]) -> Outcome<u64> {
+        crate::write_line(request, buffer)
+    }
+}

@@ -1,0 +1,96 @@
+//! The replay program: commands in, one answer for each command that answers.
+//!
+//! `run` reads and prints for any `Engine`, so that two engines differ in nothing but
+//! the calls themselves.
+
+pub mod command;
+pub mod engine;
+pub mod hex;
+pub mod print;
+pub mod sha256;
+
+pub use engine::{Engine, Lent, SecondEngine};
+
+use command::Command;
+use std::io::{self, BufRead, Write};
+
+/// What a byte of a write buffer holds before the call.
+const UNWRITTEN: u8 = 0xEE;
+
+/// Carries out all commands of the input and prints the answers.
+pub fn run(
+    engine: &mut impl Engine,
+    input: &mut impl BufRead,
+    output: &mut impl Write,
+) -> io::Result<()> {
+    let mut replay = Replay::new(engine);
+    let mut line = Vec::new();
+    loop {
+        line.clear();
+        if input.read_until(b'\n', &mut line)? == 0 {
+            return output.flush();
+        }
+        if line.last() == Some(&b'\n') {
+            line.pop();
+        }
+        if let Some(mut answer) = replay.step(&line) {
+            answer.push('\n');
+            output.write_all(answer.as_bytes())?;
+        }
+    }
+}
+
+/// An engine and the slices that stand lent to it.
+pub struct Replay<'e, E: Engine> {
+    engine: &'e mut E,
+    pub lent: Lent,
+    /// The last fingerprint, and what it was taken of: most answers change nothing.
+    taken: Option<(Lent, String)>,
+}
+
+impl<'e, E: Engine> Replay<'e, E> {
+    pub fn new(engine: &'e mut E) -> Replay<'e, E> {
+        Replay {
+            engine,
+            lent: Lent::default(),
+            taken: None,
+        }
+    }
+
+    /// Carries out one command, its end of line cut off; the answer if it has one.
+    pub fn step(&mut self, line: &[u8]) -> Option<String> {
+        let answer = match command::parse(line) {
+            Command::Nothing => return None,
+            Command::Nums(nums) => {
+                self.lent.nums = nums;
+                return None;
+            }
+            Command::Names(names) => {
+                self.lent.names = names;
+                return None;
+            }
+            Command::Bad(word) => return Some(format!("BAD {word}")),
+            Command::Open => print::open(self.engine.open(&self.lent)),
+            Command::Call(request) => print::call(self.engine, &mut self.lent, &request),
+            Command::Read(line) => print::read(self.engine.read(&line)),
+            Command::Write(cap, request) => {
+                let mut buffer = vec![UNWRITTEN; cap];
+                let outcome = self.engine.write(&request, &mut buffer);
+                print::write(outcome, &buffer)
+            }
+        };
+        Some(format!("{answer} | {}", self.fingerprint()))
+    }
+
+    /// The fingerprint of the slices as they now stand.
+    fn fingerprint(&mut self) -> String {
+        match &self.taken {
+            Some((lent, fingerprint)) if *lent == self.lent => fingerprint.clone(),
+            _ => {
+                let fingerprint = self.lent.fingerprint();
+                self.taken = Some((self.lent.clone(), fingerprint.clone()));
+                fingerprint
+            }
+        }
+    }
+}

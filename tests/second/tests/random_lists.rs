@@ -1,0 +1,278 @@
+//! Random lists in a debug build: no call panics, a refused one changes nothing, every
+//! answer is reached, and lists from opened books keep to the tally of document 01.
+
+mod common;
+
+use common::ends;
+use second::layout::Layout;
+use second::lists::{self, stats};
+use second::replay::command::{parse, Command};
+use second::replay::{Engine, Lent, SecondEngine};
+use second::who::{self, Found};
+use second::*;
+use std::collections::HashMap;
+
+/// Makes a call and gives its number; asserts that a refused one changes nothing.
+fn call(lent: &mut Lent, request: &Request) -> u64 {
+    common::call(lent, request).0
+}
+
+#[test]
+fn no_panic_and_refused_changes_nothing() {
+    let mut engine = SecondEngine;
+    for number in 0..3_000 {
+        let mut lent = Lent::default();
+        for line in lists::list(7, number).lines() {
+            match parse(line.as_bytes()) {
+                Command::Nums(nums) => lent.nums = nums,
+                Command::Names(names) => lent.names = names,
+                Command::Open => {
+                    ends(engine.open(&lent));
+                }
+                Command::Call(request) => {
+                    call(&mut lent, &request);
+                }
+                Command::Read(line) => read_back(&line),
+                Command::Write(cap, request) => write_back(cap, &request),
+                command => panic!("{command:?}"),
+            }
+        }
+    }
+}
+
+/// A line that is read is written back as it was.
+fn read_back(line: &[u8]) {
+    if let Outcome::Committed(request) = read_line(line) {
+        let mut buffer = vec![0; line.len()];
+        let length = line.len() as u64;
+        assert_eq!(
+            write_line(&request, &mut buffer),
+            Outcome::Committed(length)
+        );
+        assert_eq!(buffer, line);
+    }
+}
+
+/// A request that is written is read back as it was.
+fn write_back(cap: usize, request: &Request) {
+    let mut buffer = vec![0; cap];
+    if let Outcome::Committed(length) = write_line(request, &mut buffer) {
+        let line = &buffer[..length as usize];
+        assert_eq!(read_line(line), Outcome::Committed(request.clone()));
+    }
+}
+
+#[test]
+fn every_answer_is_reached() {
+    let counts = stats::count(11, 2_000);
+    let reached = |word: &str, number: u64| -> u64 {
+        let same = counts
+            .iter()
+            .filter(|((w, n, _), _)| w == word && *n == number);
+        same.map(|(_, times)| times).sum()
+    };
+    let answers: [(&str, &[u64]); 8] = [
+        ("OPEN", &[0, 2, 3]),
+        ("N", &[0, 2, 4, 5, 6, 7, 8, 9, 11, 12]),
+        ("P", &[0, 2, 4, 5, 6, 7, 8, 9, 10, 11]),
+        ("D", &[0, 2, 4, 7, 8, 9]),
+        ("S", &[0, 2, 4, 5, 6, 9, 10]),
+        ("L", &[0, 2, 4, 5, 8, 9]),
+        ("READ", &[0, 1]),
+        ("WRITE", &[0, 1]),
+    ];
+    for (word, numbers) in answers {
+        for &number in numbers {
+            let times = reached(word, number);
+            assert!(times >= 25, "{word} {number}: {times} times");
+        }
+    }
+    let known = |(word, number, _): &(String, u64, &str)| {
+        answers
+            .iter()
+            .any(|(w, numbers)| w == word && numbers.contains(number))
+    };
+    assert!(counts.keys().all(known), "an answer that no call gives");
+}
+
+#[test]
+fn lists_are_the_same_for_the_same_seed() {
+    assert_eq!(lists::list(3, 5), lists::list(3, 5));
+    assert_ne!(lists::list(3, 5), lists::list(4, 5));
+    assert_ne!(lists::list(3, 5), lists::list(3, 6));
+    for number in 0..200 {
+        let text = lists::list(1, number);
+        let mut lines = text.lines();
+        assert!(lines.next().unwrap().starts_with("SLICE nums"));
+        assert!(lines.next().unwrap().starts_with("BYTES names "));
+    }
+}
+
+type Place = (u64, u64);
+
+/// Document 01's tally of one list: opening book, requests, and which were answered 0.
+struct Tally {
+    layout: Layout,
+    opening: Lent,
+    orders: HashMap<Place, Vec<(u64, i64)>>,
+    delivered: HashMap<Place, usize>,
+    lots: HashMap<(u64, u64), i64>,
+    history: Vec<[i64; 7]>,
+}
+
+impl Tally {
+    fn of(opening: &Lent) -> Tally {
+        Tally {
+            layout: Layout::of(&opening.nums, &opening.names).unwrap(),
+            opening: opening.clone(),
+            orders: HashMap::new(),
+            delivered: HashMap::new(),
+            lots: HashMap::new(),
+            history: Vec::new(),
+        }
+    }
+
+    fn add(&mut self, request: &Request) {
+        match request {
+            Request::NewOrder(r) => self.add_order(r),
+            Request::Delivery(r) => {
+                for district in 1..=10 {
+                    let place = (r.warehouse, district);
+                    let placed = self.orders.get(&place).map_or(0, Vec::len);
+                    let delivered = self.delivered.entry(place).or_insert(0);
+                    *delivered += usize::from(*delivered < placed);
+                }
+            }
+            Request::Payment(r) => self.add_payment(r),
+            _ => {}
+        }
+    }
+
+    fn add_order(&mut self, r: &NewOrder) {
+        let mut sum = 0;
+        for line in &r.lines {
+            let price = self.opening.nums[self.layout.price(line.item as usize)];
+            sum += line.quantity as i64 * price;
+            let stock = (line.supply_warehouse, line.item);
+            *self.lots.entry(stock).or_insert(0) += line.quantity as i64;
+        }
+        let place = (r.warehouse, r.district);
+        self.orders
+            .entry(place)
+            .or_default()
+            .push((r.customer, sum));
+    }
+
+    fn add_payment(&mut self, r: &Payment) {
+        let (warehouse, district) = (r.customer_warehouse as usize, r.customer_district as usize);
+        let names = &self.opening.names[self.layout.names_of(warehouse, district)];
+        let Found::Customer(customer) = who::find(names, &r.who) else {
+            panic!("a payment by nobody");
+        };
+        let places = [
+            r.customer_district,
+            r.customer_warehouse,
+            r.district,
+            r.warehouse,
+        ];
+        let [home_d, home_w, d, w] = places.map(|number| number as i64);
+        let row = [
+            customer as i64,
+            home_d,
+            home_w,
+            d,
+            w,
+            r.date as i64,
+            r.amount as i64,
+        ];
+        self.history.push(row);
+    }
+
+    /// What the customers of history rows that fit have paid.
+    fn paid(&self, fits: impl Fn(&[i64; 7]) -> bool) -> i64 {
+        let rows = self.history.iter().filter(|row| fits(row));
+        rows.map(|row| row[6]).sum()
+    }
+
+    /// The claim about the whole list.
+    fn check(&self, lent: &Lent) {
+        let (layout, nums) = (&self.layout, &lent.nums);
+        assert!(lent.names == self.opening.names);
+        assert_eq!(nums[5] as usize, self.history.len());
+        for (before, row) in self.history.iter().enumerate() {
+            assert_eq!(nums[layout.history(before)], *row);
+        }
+        for w in 1..=layout.warehouses {
+            let paid = self.paid(|row| row[4] == w as i64);
+            assert_eq!(nums[layout.warehouse(w)][1], paid);
+            for i in 1..=layout.items {
+                let row = &nums[layout.stock(w, i)];
+                let lots = self.lots.get(&(w as u64, i as u64)).copied().unwrap_or(0);
+                assert_eq!(row[1], lots);
+                let opening = self.opening.nums[layout.stock(w, i)][0];
+                assert_eq!((row[0] - (opening - lots)) % 91, 0);
+            }
+            for d in 1..=10 {
+                self.check_district(nums, w, d);
+            }
+        }
+    }
+
+    fn check_district(&self, nums: &[i64], w: usize, d: usize) {
+        let layout = &self.layout;
+        let place = (w as u64, d as u64);
+        let none = Vec::new();
+        let orders = self.orders.get(&place).unwrap_or(&none);
+        let delivered = self.delivered.get(&place).copied().unwrap_or(0);
+        let row = &nums[layout.district(w, d)];
+        let paid_here = |row: &[i64; 7]| row[3] == d as i64 && row[4] == w as i64;
+        assert_eq!(row[1], self.paid(paid_here));
+        assert_eq!(row[2] as usize, orders.len() + 1);
+        for number in 1..=orders.len() {
+            let waiting = nums[layout.order(w, d, number)][5] == 1;
+            assert_eq!(waiting, number > delivered);
+        }
+        for c in 1..=layout.customers {
+            let mine = orders[..delivered]
+                .iter()
+                .filter(|order| order.0 == c as u64);
+            let bought: i64 = mine.map(|order| order.1).sum();
+            let home = [c as i64, d as i64, w as i64];
+            let paid = self.paid(|row| row[..3] == home);
+            let row = &nums[layout.customer(w, d, c)];
+            assert_eq!(row[2], bought - paid);
+            assert_eq!(row[2] + row[3], bought);
+        }
+    }
+}
+
+/// The claim after each call of lists from opened books; 2, 3 and 9 are never answered.
+#[test]
+fn opened_lists_keep_to_the_tally() {
+    let mut opened = 0;
+    for number in 0..1_200 {
+        let text = lists::list(23, number);
+        let mut lent = Lent::default();
+        let mut tally = None;
+        for line in text.lines() {
+            match (parse(line.as_bytes()), &mut tally) {
+                (Command::Nums(nums), _) => lent.nums = nums,
+                (Command::Names(names), _) => lent.names = names,
+                (Command::Open, None) if ends(open(&lent.nums, &lent.names)).0 == 0 => {
+                    tally = Some(Tally::of(&lent));
+                    opened += 1;
+                }
+                (Command::Call(request), Some(tally)) => {
+                    let answer = call(&mut lent, &request);
+                    assert!(![2, 3, 9].contains(&answer));
+                    if answer == 0 {
+                        tally.add(&request);
+                    }
+                    tally.check(&lent);
+                }
+                _ => {}
+            }
+        }
+    }
+    assert!(opened > 300, "{opened} opened books");
+}

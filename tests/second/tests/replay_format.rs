@@ -1,0 +1,161 @@
+//! The replay format: commands, answers and fingerprints.
+
+mod common;
+
+use common::*;
+use second::replay::{hex, sha256, Lent, Replay, SecondEngine};
+
+#[test]
+fn digests() {
+    let digest = |message: &[u8]| hex::write(&sha256::digest(message));
+    let empty = "e3b0c44298fc1c149afbf4c8996fb92427ae41e4649b934ca495991b7852b855";
+    assert_eq!(digest(b""), empty);
+    let abc = "ba7816bf8f01cfea414140de5dae2223b00361a396177a9cb410ff61f20015ad";
+    assert_eq!(digest(b"abc"), abc);
+    let two_blocks = "248d6a61d20638b8e5c026930c3e6039a33ce45964ff2167f6ecedd419db06c1";
+    let message = b"abcdbcdecdefdefgefghfghighijhijkijkljklmklmnlmnomnopnopq";
+    assert_eq!(digest(message), two_blocks);
+    let million = "cdc76e5c9914fb9281a1c7e284d73e67f1809a48a497200e046d39ccc7112cd0";
+    assert_eq!(digest(&vec![b'a'; 1_000_000]), million);
+}
+
+/// The hashed text of document REPLAY's example: nums 1, 2, 3 and names ALM.
+#[test]
+fn fingerprints() {
+    let of = |text: &str| hex::write(&sha256::digest(text.as_bytes())[..6]);
+    let lent = Lent {
+        nums: vec![1, 2, 3],
+        names: b"ALM".to_vec(),
+    };
+    assert_eq!(lent.fingerprint(), of("nums=1,2,3\nnames=414c4d\n"));
+    assert_eq!(Lent::default().fingerprint(), of("nums=\nnames=\n"));
+    let lent = Lent {
+        nums: vec![-1, i64::MIN, 10],
+        names: vec![0, 255],
+    };
+    let text = "nums=-1,-9223372036854775808,10\nnames=00ff\n";
+    assert_eq!(lent.fingerprint(), of(text));
+}
+
+/// A fingerprint follows the slices, also when they change between two answers.
+#[test]
+fn fingerprints_follow_the_slices() {
+    let mut engine = SecondEngine;
+    let mut replay = Replay::new(&mut engine);
+    let open = |replay: &mut Replay<_>, command: &str| {
+        assert_eq!(replay.step(command.as_bytes()), None);
+        let answer = replay.step(b"OPEN").unwrap();
+        assert_eq!(answer, format!("OPEN 2 0 | {}", replay.lent.fingerprint()));
+        answer
+    };
+    let first = open(&mut replay, "SLICE nums 1 2 3");
+    let second = open(&mut replay, "BYTES names 414c4d");
+    let third = open(&mut replay, "SLICE nums 1 2 3");
+    assert_ne!(first, second);
+    assert_eq!(second, third);
+}
+
+#[test]
+fn answers_without_a_book() {
+    let text = "OPEN\nN 1 1 1 1 0\nP 1 1 1 1 =- 1 1\nD 1 1 1\nS 1 1 #1\nL 1 1 10\n";
+    let expected = ["OPEN 2 0", "N 2 0", "P 2 0", "D 2 0", "S 2 0", "L 2 0"];
+    assert_eq!(replayed(text), expected);
+    assert_eq!(replayed(text.trim_end()), expected);
+}
+
+#[test]
+fn passed_over() {
+    let text = "LEVEL 3\nLEVEL\nSLICE last 1 2\nSLICE topup x\nBYTES notes 20\nBYTES buffer -\n\
+                QUEUE 0\nQUEUE 1 2 3 4\n\n";
+    assert_eq!(replayed(text), [""; 0]);
+}
+
+const MALFORMED: &[&str] = &[
+    "SLICE",
+    "SLICE nums x",
+    "SLICE nums 1  2",
+    "SLICE nums 9223372036854775808",
+    "SLICE nums +1",
+    "SLICE nums -",
+    "BYTES",
+    "BYTES names",
+    "BYTES names 4",
+    "BYTES names 4g",
+    "BYTES names 41 42",
+    "OPEN 1",
+    "OPENING",
+    "open",
+    "N",
+    "N 1 1 1 1",
+    "N 1 1 1 1 1 1 1",
+    "N 1 1 1 1 1 1 1 1 1",
+    "N 1 1 1 1 18446744073709551615",
+    "N 1 1 1 -1 0",
+    "D 1 1",
+    "D 1 1 18446744073709551616",
+    "D 1 1 +1",
+    "P 1 1 1 1 1 1 1",
+    "S 1 1 =",
+    "S 1 1 =4",
+    "S 1 1 #",
+    "S 1 1 ALM",
+    "L 1 1",
+    "L 1 1 1 1",
+    "READ",
+    "READ 4",
+    "READ 41 42",
+    "WRITE",
+    "WRITE 10",
+    "WRITE x D 1 1 1",
+    "WRITE 10 D 1 1",
+    "WRITE 10 OPEN",
+    "QD 1 1 1",
+    "RD 1",
+    "WRITE 18446744073709551615 D 1 1 1",
+    " OPEN",
+];
+
+#[test]
+fn malformed_commands() {
+    for text in MALFORMED {
+        let word = text.split(' ').next().unwrap();
+        assert_eq!(replayed(text), [format!("BAD {word}")], "{text:?}");
+    }
+}
+
+#[test]
+fn any_bytes_for_a_command() {
+    let mut engine = SecondEngine;
+    let mut replay = Replay::new(&mut engine);
+    for byte in 0..=255_u8 {
+        replay.step(&[byte]);
+        replay.step(&[b'N', b' ', byte]);
+        replay.step(&[byte, b' ', byte, 0xff]);
+    }
+}
+
+#[test]
+fn reading_and_writing() {
+    let text = "READ 440931093109310a\nREAD 44093109310931\nREAD -\nREAD 5309310931093d4\n\
+                READ 5309310931093d414c4d0a\nREAD 4e09300931 0a\n\
+                READ 4e09300931093209330934093509360a\n\
+                WRITE 10 D 1 1 1\nWRITE 7 D 1 1 1\nWRITE 8 S 1 2 =-\nWRITE 12 S 1 2 =41\n\
+                WRITE 9 S 1 2 #3\nWRITE 99 N 1 1 1 1 0\nWRITE 0 D 1 1 1\n";
+    let expected = [
+        "READ 0 D 1 1 1",
+        "READ 1 0",
+        "READ 1 0",
+        "BAD READ",
+        "READ 0 S 1 1 =414c4d",
+        "BAD READ",
+        "READ 0 N 0 1 2 3 1 4 5 6",
+        "WRITE 0 8 440931093109310aeeee",
+        "WRITE 1 0",
+        "WRITE 1 0",
+        "WRITE 0 9 5309310932093d410aeeeeee",
+        "WRITE 0 9 53093109320923330a",
+        "WRITE 1 0",
+        "WRITE 1 0",
+    ];
+    assert_eq!(replayed(text), expected);
+}
