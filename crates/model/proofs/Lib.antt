@@ -12,6 +12,9 @@ pub mod MarkLaws
 pub mod DecimalLaws
 pub mod LineLaws
 pub mod RowFacts
+pub mod Order
+pub mod Ordering
+pub mod NameLaws
 pub mod NameFacts
 pub mod PaymentFacts
 pub mod NewOrderFacts

@@ -24,7 +24,8 @@ use Rattle.model.proofs.TestLaws.{every-each, passed, Passed, numbered,
 use Rattle.model.proofs.Frame.{Fine}
 use Rattle.model.proofs.Fields.{v0, v1, v2, v3, v7, Shaped, head-shaped}
 use Rattle.model.proofs.RowFacts.{WarehouseIn, DistrictIn, CustomerIn, warehouse-in, district-in}
-use Rattle.model.proofs.NameFacts.{who-in, who-used}
+use Rattle.model.proofs.NameLaws.{found-number}
+use Rattle.model.proofs.NameFacts.{who-used}
 
 -- the request's numbers are in range
 pub record PayAsked (d : Dims) (q : Payment) (who : Who) : Type 0 where
@@ -82,7 +83,7 @@ pub pay-used : (d : Dims) (b : List ℤ) (names : List ℕ) (q : Payment) (who :
 unfolding payUsed payer
 pay-used d b names q who a e =
     let h = passed (payUsed d b names q who) refl e in
-    let r = who-in d names (q .custwarehouse) (q .custdistrict) who a (h .1 .1 .1 .0) in
+    let r = found-number d names (q .custwarehouse) (q .custdistrict) who a (h .1 .1 .1 .0) in
     record {
       warehouse = warehouse-in d b (q .warehouse) (h .0);
       district = district-in d b (q .warehouse) (q .district) (h .1 .0);

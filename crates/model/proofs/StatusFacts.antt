@@ -23,7 +23,8 @@ use Rattle.model.specs.Claim.{R}
 use Rattle.model.proofs.TestLaws.{every-each, passed, Passed, numbered, fault-parts}
 use Rattle.model.proofs.Fields.{Shaped, head-shaped}
 use Rattle.model.proofs.RowFacts.{DistrictIn, CustomerIn, OrderIn, district-in, orders-at}
-use Rattle.model.proofs.NameFacts.{who-in, who-used}
+use Rattle.model.proofs.NameLaws.{found-number}
+use Rattle.model.proofs.NameFacts.{who-used}
 
 -- the request's numbers are in range
 pub record StatusAsked (d : Dims) (q : OrderStatus) (who : Who) : Type 0 where
@@ -68,7 +69,7 @@ pub status-used : (d : Dims) (b : List ℤ) (names : List ℕ) (q : OrderStatus)
 unfolding statusUsed statusCustomer
 status-used d b names q who a e =
     let h = passed (statusUsed d b names q who) refl e in
-    let r = who-in d names (q .warehouse) (q .district) who a (h .1 .1 .1 .0) in
+    let r = found-number d names (q .warehouse) (q .district) who a (h .1 .1 .1 .0) in
     record {
       district = district-in d b (q .warehouse) (q .district) (h .0);
       c = r;

@@ -1,0 +1,4 @@
+-- Laws of this crate's code.
+pub mod Bytes
+pub mod Inserting
+pub mod Bridge

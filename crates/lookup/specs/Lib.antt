@@ -1,0 +1,2 @@
+-- The definitions that the contracts of the inner functions cite.
+pub mod Listed

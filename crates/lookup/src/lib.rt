@@ -1,0 +1,256 @@
+ghost use mathlib.Core.Path.{_≡_};
+ghost use mathlib.Core.Bool.{true, _&&_, cond};
+ghost use mathlib.Core.List.{_∷_, _++_};
+ghost use Prim.Native.Nat.{_+_, _-_, _*_, _≤_, _<_};
+ghost use lib.Dec.{leb};
+ghost use lib.ListN.{length, take, drop};
+ghost use Rattle.model.specs.Tests.{allTo};
+ghost use Rattle.model.specs.Layout.{nameBytes};
+ghost use Rattle.model.specs.Names.{namePlace, nameAt, nameOk, padded, compareNames, insert, sorted, passing, found, whoOf, customerOf};
+ghost use Rattle.model.specs.Used.{namesUsed};
+ghost use Rattle.model.specs.Claim.{R};
+ghost use Rattle.model.proofs.Fields.{Dimensioned};
+ghost use Rattle.lookup.specs.Listed.{namedFrom, beforeFrom, nameOkFrom, insertPlace, Listed, Holds};
+use model::Comparison;
+use model::Dims;
+use model::Found;
+use model::Selection;
+
+// Where the names of a district's customers start.
+pub fn name_base(d: Dims, w: u64, k: u64) -> u64
+    requires { ⌜ Dimensioned d × (R (d .warehouses) w × R 10 k) ⌝ }
+    ensures { λ r. ⌜ (r ≡ namePlace d w k 1) × (r + 32 * d .customers ≤ nameBytes d) ⌝ }
+{
+    let district = (w - 1) * 10 + (k - 1);
+    let first = district * d.customers;
+    32 * first
+}
+
+// Two names of 16 bytes, byte by byte from the left.
+fn compare_names(a: &[u8], p: u64, b: &[u8], q: u64) -> Comparison
+    requires { ⌜ (p + 16 ≤ length (now a)) × (q + 16 ≤ length (now b)) ⌝ }
+    ensures { λ r. ⌜ r ≡ compareNames (nameAt (now (a .entry)) p) (nameAt (now (b .entry)) q) ⌝ }
+{
+    let mut i = 0;
+    while i < 16 {
+        let x = a[(p + i) as usize];
+        let y = b[(q + i) as usize];
+        if x < y {
+            return Comparison::Smaller;
+        }
+        if y < x {
+            return Comparison::Larger;
+        }
+        i += 1;
+    }
+    Comparison::Equal
+}
+
+// A customer has a last name, which is given with its 16 bytes.
+fn is_named(names: &[u8], base: u64, name: &[u8], c: u64) -> bool
+    requires { ⌜ (1 ≤ c) × ((base + 32 * c ≤ length (now names)) × (length (now name) ≡ 16)) ⌝ }
+    ensures { λ r. ⌜ r ≡ namedFrom (now (names .entry)) base (now (name .entry)) c ⌝ }
+{
+    let how = compare_names(names, base + 32 * (c - 1), name, 0);
+    match how {
+        Comparison::Smaller => false,
+        Comparison::Equal => true,
+        Comparison::Larger => false,
+    }
+}
+
+// Customer x comes before customer y, by first name and then number.
+fn comes_before(names: &[u8], base: u64, x: u64, y: u64) -> bool
+    requires { ⌜ (1 ≤ x) × ((1 ≤ y) × ((base + 32 * x ≤ length (now names)) × (base + 32 * y ≤ length (now names)))) ⌝ }
+    ensures { λ r. ⌜ r ≡ beforeFrom (now (names .entry)) base x y ⌝ }
+{
+    let how = compare_names(
+        names,
+        base + 32 * (x - 1) + 16,
+        names,
+        base + 32 * (y - 1) + 16,
+    );
+    match how {
+        Comparison::Smaller => true,
+        Comparison::Equal => x < y,
+        Comparison::Larger => false,
+    }
+}
+
+// Two ends of a range of places.
+pub struct Places {
+    pub low: u64,
+    pub high: u64,
+}
+
+// The half of a range of places that has the place of customer c among the first n of a list of customers.
+fn halve(names: &[u8], base: u64, count: u64, list: &[u64], n: u64, c: u64, at: Places) -> Places
+    requires { ⌜ Listed (now names) base count (now list) n c × ((at .low < at .high) × Holds (now names) base (now list) n c at) ⌝ }
+    ensures { λ r. ⌜ (r .high - r .low < at .high - at .low) × Holds (now (names .entry)) base (now (list .entry)) n c r ⌝ }
+{
+    let mid = at.low + (at.high - at.low) / 2;
+    if comes_before(names, base, c, list[mid as usize]) {
+        return Places {
+            low: at.low,
+            high: mid,
+        };
+    }
+    Places {
+        low: mid + 1,
+        high: at.high,
+    }
+}
+
+// The place of customer c among the first n of a list of customers.
+fn place_of(names: &[u8], base: u64, count: u64, list: &[u64], n: u64, c: u64) -> u64
+    requires { ⌜ Listed (now names) base count (now list) n c ⌝ }
+    ensures { λ r. ⌜ (r ≡ insertPlace (beforeFrom (now (names .entry)) base) c (take n (now (list .entry)))) × (r ≤ n) ⌝ }
+{
+    let mut at = Places { low: 0, high: n };
+    while at.low < at.high {
+        at = halve(names, base, count, list, n, c, at);
+    }
+    at.low
+}
+
+// Number c put at place p of the first n of a list; those from p on move up by one.
+fn put_in(list: &mut [u64], n: u64, p: u64, c: u64)
+    requires { ⌜ (p ≤ n) × (n < length (now list)) ⌝ }
+    ensures { λ r. ⌜ take (n + 1) (now (list .exit)) ≡ take p (now (list .entry)) ++ (c ∷ drop p (take n (now (list .entry)))) ⌝ }
+{
+    let mut x = c;
+    for i in p..n {
+        let y = list[i as usize];
+        list[i as usize] = x;
+        x = y;
+    }
+    list[n as usize] = x;
+}
+
+// Customer c inserted into the first n of a list.
+fn insert_in(names: &[u8], base: u64, count: u64, list: &mut [u64], n: u64, c: u64)
+    requires { ⌜ (n < length (now list)) × Listed (now names) base count (now list) n c ⌝ }
+    ensures { λ r. ⌜ take (n + 1) (now (list .exit)) ≡ insert (beforeFrom (now (names .entry)) base) c (take n (now (list .entry))) ⌝ }
+{
+    let p = place_of(names, base, count, list, n, c);
+    put_in(list, n, p, c);
+}
+
+// Customer c inserted, where the last name is its own; the new count.
+fn consider(
+    names: &[u8],
+    base: u64,
+    count: u64,
+    name: &[u8],
+    list: &mut [u64],
+    n: u64,
+    c: u64,
+) -> u64
+    requires { ⌜ (length (now name) ≡ 16) × ((n < length (now list)) × Listed (now names) base count (now list) n c) ⌝ }
+    ensures { λ r. ⌜ (r ≤ n + 1) × (take r (now (list .exit)) ≡ cond (namedFrom (now (names .entry)) base (now (name .entry)) c) (insert (beforeFrom (now (names .entry)) base) c (take n (now (list .entry)))) (take n (now (list .entry)))) ⌝ }
+{
+    if is_named(names, base, name, c) {
+        insert_in(names, base, count, list, n, c);
+        return n + 1;
+    }
+    n
+}
+
+// The customers with a last name, in order, at the front of a list; how many.
+fn gather(names: &[u8], base: u64, count: u64, name: &[u8], list: &mut [u64]) -> u64
+    requires { ⌜ (base + 32 * count ≤ length (now names)) × ((length (now name) ≡ 16) × (count ≤ length (now list))) ⌝ }
+    ensures { λ r. ⌜ (r ≤ count) × (take r (now (list .exit)) ≡ sorted (beforeFrom (now (names .entry)) base) (passing (namedFrom (now (names .entry)) base (now (name .entry))) count)) ⌝ }
+{
+    let mut n = 0;
+    for i in 0..count {
+        n = consider(names, base, count, name, list, n, i + 1);
+    }
+    n
+}
+
+// A name of at most 16 bytes with spaces after it.
+fn pad(wanted: &[u8]) -> [u8; 16]
+    requires { ⌜ length (now wanted) ≤ 16 ⌝ }
+    ensures { λ r. ⌜ r ≡ padded (now (wanted .entry)) ⌝ }
+{
+    let mut name = [32u8; 16];
+    for i in 0..wanted.len() {
+        name[i] = wanted[i];
+    }
+    name
+}
+
+// The customer of a district that a last name stands for.
+pub fn find(names: &[u8], d: Dims, w: u64, k: u64, name: &[u8]) -> Found
+    requires { ⌜ Dimensioned d × (R (d .warehouses) w × (R 10 k × (length (now names) ≡ nameBytes d))) ⌝ }
+    ensures { λ r. ⌜ r ≡ found d (now (names .entry)) w k (now (name .entry)) ⌝ }
+{
+    if name.len() < 1 {
+        return Found::Nobody;
+    }
+    if 16 < name.len() {
+        return Found::Nobody;
+    }
+    let wanted = pad(name);
+    let base = name_base(d, w, k);
+    let mut list = [0u64; 3000];
+    let n = gather(names, base, d.customers, &wanted, &mut list);
+    if n == 0 {
+        return Found::Nobody;
+    }
+    let place = (n + 1) / 2;
+    Found::Customer(list[(place - 1) as usize])
+}
+
+// The customer that a request names, by number or by last name.
+pub fn customer_of(names: &[u8], d: Dims, w: u64, k: u64, who: Selection, name: &[u8]) -> Found
+    requires { ⌜ Dimensioned d × (R (d .warehouses) w × (R 10 k × (length (now names) ≡ nameBytes d))) ⌝ }
+    ensures { λ r. ⌜ r ≡ customerOf d (now (names .entry)) w k (whoOf who (now (name .entry))) ⌝ }
+{
+    match who {
+        Selection::Number(c) => Found::Customer(c),
+        Selection::LastName => find(names, d, w, k, name),
+    }
+}
+
+// A byte that a name may have.
+fn byte_ok(x: u8) -> bool
+    ensures { λ r. ⌜ r ≡ (leb 32 x && leb x 126) ⌝ }
+{
+    (32 <= x) & (x <= 126)
+}
+
+// The 32 bytes of a customer's names are in range.
+fn name_ok(names: &[u8], p: u64) -> bool
+    requires { ⌜ p + 32 ≤ length (now names) ⌝ }
+    ensures { λ r. ⌜ r ≡ nameOk (now (names .entry)) p ⌝ }
+{
+    let mut ok = true;
+    for i in 0..32 {
+        ok = ok & byte_ok(names[(p + i) as usize]);
+    }
+    ok & (names[p as usize] != 32)
+}
+
+// The names of a run of customers are in range.
+fn names_ok(names: &[u8], base: u64, count: u64) -> bool
+    requires { ⌜ base + 32 * count ≤ length (now names) ⌝ }
+    ensures { λ r. ⌜ r ≡ allTo count (nameOkFrom (now (names .entry)) base) ⌝ }
+{
+    let mut i = 0;
+    while i < count {
+        if !name_ok(names, base + 32 * i) {
+            return false;
+        }
+        i += 1;
+    }
+    true
+}
+
+// The names of all customers of a district are in range.
+pub fn names_used(names: &[u8], d: Dims, w: u64, k: u64) -> bool
+    requires { ⌜ Dimensioned d × (R (d .warehouses) w × (R 10 k × (length (now names) ≡ nameBytes d))) ⌝ }
+    ensures { λ r. ⌜ r ≡ namesUsed d (now (names .entry)) w k ⌝ }
+{
+    names_ok(names, name_base(d, w, k), d.customers)
+}
