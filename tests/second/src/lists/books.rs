@@ -109,6 +109,40 @@ pub fn in_use(random: &mut Random, layout: Layout) -> Book {
     book
 }
 
+/// A book whose favoured district has about as many orders as Stock-Level's window, each
+/// of one line, over many items of which some are low.
+pub fn windowed(random: &mut Random) -> Book {
+    let mut layout = dimensions(random);
+    (layout.warehouses, layout.customers) = (1, layout.customers.min(4));
+    layout.items = random.between(20, 120) as usize;
+    layout.order_slots = random.between(20, 26) as usize;
+    let mut book = fresh(random, layout);
+    for item in 1..=layout.items {
+        book.lent.nums[layout.stock(1, item)][0] = random.between(5, 25);
+    }
+    let (district, slots) = (book.focus.district, layout.order_slots as i64);
+    let next = random.between(19, slots + 1);
+    book.lent.nums[layout.district(1, district)][2] = next;
+    for number in 1..next as usize {
+        let item = 1 + random.below(layout.items) as i64;
+        let waiting = random.between(0, 1);
+        let row = [1, 50, 0, 1, 1, waiting, item, 1, 1, 100, 0];
+        let start = layout.order(1, district, number).start;
+        book.lent.nums[start..start + row.len()].copy_from_slice(&row);
+    }
+    if random.percent(40) {
+        let number = 1 + random.below(next as usize);
+        let slot = layout.order(1, district, number.min(layout.order_slots));
+        book.lent.nums[slot][random_order_column(random)] = -1;
+    }
+    book
+}
+
+/// A column of an order's own numbers or of its first line.
+fn random_order_column(random: &mut Random) -> usize {
+    random.below(order::LINES + order_line::WIDTH)
+}
+
 /// Gives a district orders up to a next order number, which it answers.
 fn fill_orders(random: &mut Random, book: &mut Book, warehouse: usize, district: usize) -> usize {
     let layout = book.layout;
@@ -154,27 +188,43 @@ pub fn damage(random: &mut Random, book: &mut Book, times: usize) {
     }
 }
 
+/// Sets numbers of the favoured district's orders so.
+pub fn damage_orders(random: &mut Random, book: &mut Book, times: usize) {
+    for _ in 0..times {
+        damage_row(random, book, Kind::Order);
+    }
+}
+
 fn damage_row(random: &mut Random, book: &mut Book, kind: Kind) {
     let layout = book.layout;
     let starts = kind.starts(&layout);
-    let start = if random.percent(60) {
+    let start = if random.percent(75) {
         kind.focus_start(random, book)
     } else {
         *random.pick(&starts)
     };
     let columns = kind.ranges(&layout);
-    // The first 16 columns of an order are its own and those of two lines.
-    let column = random.below(columns.len().min(16));
+    // The first 11 columns of an order are its own and those of its first line.
+    let first_columns = *random.pick(&[11, 11, 16, 81]);
+    let column = random.below(columns.len().min(first_columns));
     book.lent.nums[start + column] = edge(random, columns[column]);
 }
 
 fn damage_name(random: &mut Random, book: &mut Book) {
     let names = &mut book.lent.names;
-    let place = if random.percent(30) {
-        random.below(names.len() / NAMES_WIDTH) * NAMES_WIDTH
-    } else {
-        random.below(names.len())
+    let at = book.focus;
+    let place = match random.below(4) {
+        0 => random.below(names.len()),
+        _ => {
+            let range = book.layout.names_of(at.warehouse, at.district);
+            range.start + random.below(range.len())
+        }
     };
+    if random.percent(40) {
+        let first = place - place % NAMES_WIDTH;
+        names[first] = b' ';
+        return;
+    }
     names[place] = *random.pick(&[0, 9, 10, 31, 32, 33, 126, 127, 128, 255, b'A']);
 }
 
@@ -300,7 +350,9 @@ impl Kind {
             Kind::Item => layout.price(at.item),
             Kind::Stock => layout.stock(at.warehouse, at.item).start,
             Kind::Order => {
-                let number = 1 + random.below(layout.order_slots);
+                let next = layout.district(at.warehouse, at.district).start + 2;
+                let slots = book.lent.nums[next].clamp(2, layout.order_slots as i64 + 1) - 1;
+                let number = 1 + random.below(slots as usize);
                 layout.order(at.warehouse, at.district, number).start
             }
         }
@@ -316,12 +368,11 @@ fn head(layout: &Layout) -> Vec<i64> {
 /// A book with names and a focus and no numbers yet.
 fn blank(random: &mut Random, layout: Layout) -> Book {
     let last_names = last_name_pool(random);
-    let firsts: [&[u8]; 6] = [b"", b"EVA", b"BO", b"EV", b"eva", b"~~~~~~~~~~~~~~~~"];
-    let firsts = &firsts[..1 + random.below(firsts.len())];
+    let firsts = first_name_pool(random);
     let mut names = Vec::with_capacity(layout.name_bytes());
     while names.len() < layout.name_bytes() {
         let mut name = [b' '; NAMES_WIDTH];
-        let (last, first) = (random.pick(&last_names), random.pick(firsts));
+        let (last, first) = (random.pick(&last_names), random.pick(&firsts));
         name[..last.len()].copy_from_slice(last);
         name[16..16 + first.len()].copy_from_slice(first);
         names.extend_from_slice(&name);
@@ -342,6 +393,23 @@ fn blank(random: &mut Random, layout: Layout) -> Book {
         focus,
         last_names,
     }
+}
+
+/// One to six first names for a whole book; some differ in a late byte alone.
+fn first_name_pool(random: &mut Random) -> Vec<&'static [u8]> {
+    let pool: [&[u8]; 9] = [
+        b"",
+        b"EVA",
+        b"BO",
+        b"EV",
+        b"eva",
+        b"~~~~~~~~~~~~~~~~",
+        b"JOHANNA-MARIA  B",
+        b"JOHANNA-MARIA  A",
+        b"JOHANNA-ANNA",
+    ];
+    let count = 1 + random.below(6);
+    (0..count).map(|_| *random.pick(&pool)).collect()
 }
 
 /// One to four last names for a whole book, so that many customers share one.

@@ -14,13 +14,15 @@ use requests::Asker;
 const MIXED: [usize; 5] = [35, 25, 12, 16, 12];
 const ORDERS: [usize; 5] = [70, 5, 10, 8, 7];
 const BY_NAME: [usize; 5] = [10, 45, 5, 40, 0];
+const READERS_OF_ORDERS: [usize; 5] = [10, 5, 30, 30, 25];
+const WINDOWS: [usize; 5] = [25, 0, 5, 10, 60];
 const EACH: [usize; 5] = [20, 20, 20, 20, 20];
 
 /// The list with this number of the run with this seed.
 pub fn list(seed: u64, number: u64) -> String {
     let mixed = Random::new(seed).number() ^ number.wrapping_mul(0xd134_2543_de82_ef95);
     let random = &mut Random::new(mixed);
-    match random.weighted(&[27, 8, 26, 9, 8, 9, 10, 3]) {
+    match random.weighted(&[26, 8, 25, 9, 8, 8, 10, 3, 3]) {
         0 => opened(random),
         1 => filled(random),
         2 => never_opened(random),
@@ -28,6 +30,7 @@ pub fn list(seed: u64, number: u64) -> String {
         4 => damaged_head(random),
         5 => many_equal_names(random),
         6 => request_lines(random),
+        7 => windows(random),
         _ => chaotic(random),
     }
 }
@@ -70,13 +73,25 @@ fn never_opened(random: &mut Random) -> String {
     let layout = books::dimensions(random);
     let mut book = books::in_use(random, layout);
     let times = *random.pick(&[0, 0, 1, 1, 2, 3, 5, 8]);
-    books::damage(random, &mut book, times);
+    let weights = if random.percent(35) {
+        books::damage_orders(random, &mut book, 1);
+        READERS_OF_ORDERS
+    } else {
+        books::damage(random, &mut book, times);
+        MIXED
+    };
     let mut text = lend(&book.lent);
     if random.percent(20) {
         text.push_str("OPEN\n");
     }
     let count = 5 + random.below(12);
-    ask(random, &mut text, &mut Asker::new(&book, 40), &MIXED, count);
+    ask(
+        random,
+        &mut text,
+        &mut Asker::new(&book, 40),
+        &weights,
+        count,
+    );
     text
 }
 
@@ -124,6 +139,14 @@ fn many_equal_names(random: &mut Random) -> String {
     }
     let mut text = lend(&book.lent);
     ask(random, &mut text, &mut Asker::new(&book, 90), &BY_NAME, 14);
+    text
+}
+
+/// Stock-Level where the window has just filled, and as it moves.
+fn windows(random: &mut Random) -> String {
+    let book = books::windowed(random);
+    let mut text = lend(&book.lent);
+    ask(random, &mut text, &mut Asker::new(&book, 20), &WINDOWS, 10);
     text
 }
 

@@ -8,7 +8,8 @@ use crate::request::{Delivery, Line, NewOrder, OrderStatus, Payment, Request, St
 
 /// A READ command.
 pub fn read_command(random: &mut Random) -> String {
-    let mut parts = fields(&request(random, false));
+    let odd = random.percent(15);
+    let mut parts = fields(&request(random, odd));
     if random.percent(30) {
         damage_fields(random, &mut parts);
     }
@@ -64,6 +65,7 @@ fn request(random: &mut Random, odd: bool) -> Request {
             let counts = [1, 1, 2, 3, 7, 14, 15];
             let from: &[usize] = if odd { &odd_counts } else { &counts };
             let count = *random.pick(from);
+            let odd = odd && random.percent(40);
             let [warehouse, district, customer, date] = [(); 4].map(|()| number(random, odd));
             let lines = (0..count).map(|_| line(random, odd)).collect();
             Request::NewOrder(NewOrder {
