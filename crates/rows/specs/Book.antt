@@ -1,0 +1,26 @@
+-- What the functions of the crate ask of a book: its dimensions are in range and its length is what they imply.
+-- Assumes nothing.
+use mathlib.Core.Path.{_≡_}
+use mathlib.Core.Bool.{Bool}
+use mathlib.Core.List.{List}
+use Prim.Native.Nat.{ℕ, _+_, _-_}
+use lib.ListN.{length}
+use lib.IntN.{ℤ}
+use Rattle.model.specs.declared.Dims.{Dims}
+use Rattle.model.specs.Tests.{every, allTo}
+use Rattle.model.specs.Layout.{numbers}
+use Rattle.model.specs.Rows.{line, lineTests}
+use Rattle.model.specs.Used.{orderUsed}
+use Rattle.model.proofs.Fields.{Dimensioned}
+
+pub record Booked (d : Dims) (b : List ℤ) : Type 0 where
+  pub dimsd : Dimensioned d
+  pub long : length b ≡ numbers d
+
+-- the first n lines of an order's row are in range
+abbrev pub linesOk : Dims → (ℕ → ℤ) → ℕ → Bool
+linesOk d r n = allTo n (λ j. every (lineTests d (line r j)))
+
+-- the n orders of a district from a number on are in range
+abbrev pub ordersFrom : Dims → List ℤ → ℕ → ℕ → ℕ → ℕ → Bool
+ordersFrom d b w k first n = allTo n (λ j. orderUsed d b w k (first + (j - 1)))
