@@ -1,8 +1,7 @@
 -- The twelve cases of document 01, computed by the definitions that the calls use.
 -- Assumes nothing.
 use mathlib.Core.Path.{_≡_, refl}
-use mathlib.Core.List.{List, [], _∷_}
-use Prim.Native.Nat.{ℕ}
+use mathlib.Core.List.{[], _∷_}
 use Rattle.model.specs.Names.{placeOf}
 use Rattle.model.specs.NewOrder.{restock, orderTotal}
 use Rattle.model.specs.StockLevel.{windowFirst, windowCount}

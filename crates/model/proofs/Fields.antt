@@ -1,7 +1,7 @@
 -- Valid addresses by section, a row read from its start, and what the head's tests say.
 -- Assumes nothing.
 use mathlib.Core.Path.{_≡_, refl, sym, ap, _∙_, fun-ext}
-use mathlib.Core.Bool.{Bool, true, false}
+use mathlib.Core.Bool.{true}
 use mathlib.Core.List.{List, [], _∷_}
 use Prim.Native.Nat.{ℕ, zero, suc, _+_, _*_, _-_, _≤_, _<_}
 use native.Mathlib.Omega.{arith}
@@ -9,17 +9,17 @@ use native.Mathlib.Nat.{add-assoc, add-zero}
 use lib.Dec.{leb, eqb}
 use lib.IntN.{ℤ, pos}
 use lib.ListN.{length, getD}
-use borrow.Author.Tests.{leb-true, eqb-true, eq-eqb, ne-eqb}
+use borrow.Author.Tests.{leb-true, eqb-true}
 use Rattle.model.specs.declared.Dims.{Dims}
 use Rattle.model.specs.Tests.{every}
-use Rattle.model.specs.Layout.{Shape, Addr, at, place, inside, total, shapes, numbers, nameBytes, none}
+use Rattle.model.specs.Layout.{Shape, at, place, inside, total, shapes, numbers, nameBytes, none}
 use Rattle.model.specs.Store.{get, num, from, rowOf}
 use Rattle.model.specs.Numbers.{nat, cell}
 use Rattle.model.specs.Rows.{slot, line}
 use Rattle.model.specs.Head.{dims, dimsTests, sizeTests, headOk}
 use Rattle.model.specs.Claim.{R}
 use Rattle.model.proofs.TestLaws.{every-each}
-use Rattle.model.proofs.Places.{Valid, In, place-lt, place-start}
+use Rattle.model.proofs.Places.{Valid, place-lt, place-start}
 
 module _ (D : Dims) where
   pub v0 : (k : ℕ) → k < 6 → Valid (shapes D) (at 0 1 1 1 k)

@@ -1,21 +1,18 @@
 -- What stands at an address after a list of changes.
 -- Assumes nothing.
 use mathlib.Core.Path.{_≡_, refl, sym, ap, _∙_, subst}
-use mathlib.Core.Logic.{_≢_}
-use mathlib.Core.Bool.{Bool, true, false, _&&_, cond}
+use mathlib.Core.Bool.{Bool, true, false, cond}
 use mathlib.Core.List.{List, [], _∷_}
-use Prim.Native.Nat.{ℕ, zero, suc, pred, _+_, _*_, _-_, _≤_, _<_}
-use native.Mathlib.Nat.{not-suc-le-zero, le-of-suc-le-suc, add-zero, zero-add, suc-add, add-suc, suc-sub-suc}
+use Prim.Native.Nat.{ℕ, zero, suc, _+_, _-_, _≤_, _<_}
+use native.Mathlib.Nat.{not-suc-le-zero, le-of-suc-le-suc, add-zero, zero-add, suc-add, add-suc}
 use native.Mathlib.Omega.{arith}
 use native.Mathlib.Decide.{decLt}
-use lib.Dec.{T, eqb, leb, ltb}
 use lib.IntN.{ℤ, pos}
 use lib.ListN.{length, getD, set, length-set}
 use lib.Seq.{getD-set-same, getD-set-other}
-use borrow.Author.Tests.{eqb-true, eqb-false, eq-eqb, ne-eqb}
-use Rattle.model.specs.Layout.{Shape, Addr, at, place, inside, base, total, none}
+use Rattle.model.specs.Layout.{Shape, Addr, at, place, total, none}
 use Rattle.model.specs.Store.{get, remap, Op, one, row, op, run}
-use Rattle.model.proofs.Places.{In, Valid, same, place-lt, rowSame, start, place-start, Same, true-same, same-place, place-inj, false-place, row-true, row-inside}
+use Rattle.model.proofs.Places.{Valid, same, place-lt, rowSame, start, place-start, true-same, same-place, false-place, row-true, row-inside}
 
 pub length-remap : (p n k : ℕ) (f : ℕ → ℤ → ℤ) (b : List ℤ) → length (remap p n k f b) ≡ length b
 unfolding remap

@@ -1,11 +1,10 @@
 -- Changes that read the book as it was before any of them are the same as changes in turn, where no change touches a number that a
 -- later one reads. For a literal list of changes with numerals for section and column, `apart` computes: the fact is `refl`.
 -- Assumes nothing.
-use mathlib.Core.Path.{_≡_, refl, sym, ap, _∙_, subst}
-use mathlib.Core.Bool.{Bool, true, false, not, _&&_, cond}
+use mathlib.Core.Path.{_≡_, refl, sym, ap, _∙_}
+use mathlib.Core.Bool.{Bool, true, false, not, _&&_}
 use mathlib.Core.List.{List, [], _∷_}
-use Prim.Native.Nat.{ℕ}
-use lib.IntN.{ℤ, pos}
+use lib.IntN.{ℤ}
 use lib.ListN.{length, getD, set}
 use borrow.Author.Tests.{not-true}
 use Rattle.model.specs.Layout.{Shape, Addr, place, total, none}

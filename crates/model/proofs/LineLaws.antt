@@ -2,9 +2,9 @@
 -- Assumes nothing.
 use Prim.Native.Nat.{ℕ, zero, suc, _+_, _-_, _*_, _/_, _<_, _≤_}
 use mathlib.Core.Path.{_≡_, refl, sym, ap, _∙_, subst}
-use mathlib.Core.List.{List, [], _∷_, _++_, append-nil, append-assoc}
+use mathlib.Core.List.{List, [], _∷_, _++_, append-nil}
 use mathlib.Core.Bool.{Bool, true, false, _&&_, not, cond}
-use lib.Dec.{leb, ltb, eqb}
+use lib.Dec.{leb, eqb}
 use lib.ListN.{length, getD, take, drop, length-append, drop-of-length-le}
 use lib.Seq.{drop-cons, take-at, getD-at, take-length, take-suc}
 use native.Mathlib.Omega.{arith}
@@ -13,9 +13,9 @@ use Rattle.model.specs.declared.Line.{Line}
 use Rattle.model.specs.Tests.{every, allOf}
 use Rattle.model.specs.Names.{Who, byNumber, byName}
 use Rattle.model.specs.Request.{Request, newOrder, payment, delivery, orderStatus, stockLevel}
-use Rattle.model.specs.RequestLine.{isDigit, isNumber, valueOf, hasDigits, decimal, isPrintable, isName, isWho, whoRead, hasWho, whoField, lineSmall, hasForm, letter, lineFields, fieldsOf, tabbed, lineOf, onto, parted, Reading, read, noForm, readIf, field, numberIn, linesRead, readNewOrder, readPayment, readDelivery, readOrderStatus, readStockLevel, readFields, readParted, readLine}
-use Rattle.model.proofs.TestLaws.{and-left, and-right, and-both, every-each, each-every}
-use Rattle.model.proofs.DecimalLaws.{Digit, digit-in, all-append, number-written, value-written, Number, number-read}
+use Rattle.model.specs.RequestLine.{isDigit, isNumber, valueOf, hasDigits, decimal, isPrintable, isName, isWho, whoRead, hasWho, whoField, lineSmall, hasForm, letter, lineFields, fieldsOf, tabbed, lineOf, onto, parted, read, noForm, readIf, field, numberIn, linesRead, readNewOrder, readPayment, readDelivery, readOrderStatus, readStockLevel, readFields, readParted, readLine}
+use Rattle.model.proofs.TestLaws.{and-left, and-right, and-both, every-each}
+use Rattle.model.proofs.DecimalLaws.{digit-in, number-written, value-written, number-read}
 
 clash : {X : Type 0} {r : Request} → noForm ≡ read r → X
 clash e = absurd (let z : _≡_ {A = ℕ} 0 1 = cc in omega arith)

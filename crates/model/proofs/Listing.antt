@@ -6,7 +6,6 @@ use Prim.Native.Nat.{ℕ, zero, suc}
 use lib.Count.{ones}
 use lib.IntN.{ℤ, pos, negsuc}
 use lib.ListN.{length, replicate, take}
-use Rattle.model.specs.declared.Refusal.{Refusal}
 use Rattle.model.specs.Tests.{allTo}
 use Rattle.model.specs.Numbers.{nat, cell, balanceOk}
 use Rattle.model.specs.Layout.{numbers, nameBytes, inside, place}

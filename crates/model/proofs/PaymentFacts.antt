@@ -1,26 +1,26 @@
 -- What is known where a payment is not refused: cited by the code's proofs and by the theorem.
 -- Assumes nothing.
-use mathlib.Core.Path.{_≡_, refl, sym, ap, _∙_}
-use mathlib.Core.Bool.{Bool, true, false}
+use mathlib.Core.Path.{_≡_, refl}
+use mathlib.Core.Bool.{true}
 use mathlib.Core.List.{List, [], _∷_, _++_}
-use Prim.Native.Nat.{ℕ, zero, suc, _+_, _≤_, _<_}
+use Prim.Native.Nat.{ℕ, _+_, _≤_, _<_}
 use native.Mathlib.Omega.{arith}
-use lib.Dec.{ltb, leb}
+use lib.Dec.{leb}
 use lib.ListN.{length}
 use lib.IntN.{ℤ}
 use borrow.Author.Tests.{leb-true, ltb-true}
 use Rattle.model.specs.declared.Dims.{Dims}
 use Rattle.model.specs.declared.Payment.{Payment}
-use Rattle.model.specs.Tests.{every, fault, Check, chk}
+use Rattle.model.specs.Tests.{every, fault, chk}
 use Rattle.model.specs.Numbers.{maxDate}
 use Rattle.model.specs.Layout.{shapes}
 use Rattle.model.specs.Store.{num}
 use Rattle.model.specs.Head.{dims, headOk}
-use Rattle.model.specs.Names.{Who, whoTests, customerOf}
+use Rattle.model.specs.Names.{Who, whoTests}
 use Rattle.model.specs.Rows.{historyCount}
 use Rattle.model.specs.Payment.{payAsked, payUsed, paymentFault, payer, payOps}
 use Rattle.model.specs.Claim.{R}
-use Rattle.model.proofs.TestLaws.{every-each, passed, Passed, numbered, fault-parts}
+use Rattle.model.proofs.TestLaws.{every-each, passed, numbered, fault-parts}
 use Rattle.model.proofs.Frame.{Fine}
 use Rattle.model.proofs.Fields.{v0, v1, v2, v3, v7, Shaped, head-shaped}
 use Rattle.model.proofs.RowFacts.{WarehouseIn, DistrictIn, CustomerIn, warehouse-in, district-in}

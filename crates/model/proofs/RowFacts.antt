@@ -1,11 +1,11 @@
 -- What the tests of a used row say, number by number, and that they say no more. Rows by address, numbers by `num`.
 -- Assumes nothing.
-use mathlib.Core.Path.{_≡_, refl, sym, ap, _∙_}
-use mathlib.Core.Bool.{Bool, true, false, _&&_, cond}
+use mathlib.Core.Path.{_≡_, refl}
+use mathlib.Core.Bool.{Bool, true, false, cond}
 use mathlib.Core.List.{List, [], _∷_}
 use Prim.Native.Nat.{ℕ, zero, suc, _+_, _*_, _-_, _≤_, _<_}
 use native.Mathlib.Omega.{arith}
-use lib.Dec.{leb, eqb}
+use lib.Dec.{eqb}
 use lib.IntN.{ℤ}
 use lib.ListN.{length, getD}
 use borrow.Author.Tests.{leb-true, le-leb, eqb-true}
@@ -14,7 +14,7 @@ use Rattle.model.specs.Tests.{every, allTo, allOf, failing}
 use Rattle.model.specs.Numbers.{nat, balanceOk}
 use Rattle.model.specs.Layout.{shapes, total, numbers, at}
 use Rattle.model.specs.Store.{get, num, rowOf}
-use Rattle.model.specs.Rows.{warehouseRow, warehouseTax, warehouseYtd, warehouseTests, districtRow, districtTax, districtYtd, nextOrder, districtTests, customerRow, discount, balance, ytdPayment, paymentCnt, deliveryCnt, customerTests, price, itemTests, stockRow, onHand, stockYtd, orderCnt, remoteCnt, stockTests, slot, orderCol, orderRow, orderCustomer, entryDate, carrier, lineCount, waiting, orderTests, line, lineTests, orderOk}
+use Rattle.model.specs.Rows.{warehouseRow, warehouseTax, warehouseYtd, warehouseTests, districtRow, districtTax, districtYtd, nextOrder, districtTests, customerRow, discount, balance, ytdPayment, paymentCnt, deliveryCnt, customerTests, price, itemTests, stockRow, onHand, stockYtd, orderCnt, remoteCnt, stockTests, orderCol, orderRow, orderCustomer, entryDate, carrier, lineCount, waiting, orderTests, line, lineTests, orderOk}
 use Rattle.model.specs.Used.{warehouseUsed, districtUsed, customerUsed, itemUsed, stockUsed, orderUsed, customersUsed, ordersUsed}
 use Rattle.model.specs.Claim.{R}
 use Rattle.model.proofs.TestLaws.{every-each, each-every, and-left, and-right, and-both, all-at, all-to}

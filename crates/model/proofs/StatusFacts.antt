@@ -3,7 +3,7 @@
 use mathlib.Core.Path.{_≡_, refl, sym, ap, _∙_}
 use mathlib.Core.Bool.{Bool, true, false, cond}
 use mathlib.Core.List.{List, [], _∷_, _++_}
-use Prim.Native.Nat.{ℕ, zero, suc, _+_, _-_, _≤_, _<_}
+use Prim.Native.Nat.{ℕ, zero, suc, _+_, _-_}
 use native.Mathlib.Omega.{arith}
 use lib.Dec.{leb, eqb}
 use lib.ListN.{length}
@@ -11,16 +11,16 @@ use lib.IntN.{ℤ}
 use borrow.Author.Tests.{leb-true}
 use Rattle.model.specs.declared.Dims.{Dims}
 use Rattle.model.specs.declared.OrderStatus.{OrderStatus}
-use Rattle.model.specs.Tests.{every, fault, Check, chk}
+use Rattle.model.specs.Tests.{every, fault, chk}
 use Rattle.model.specs.Layout.{shapes}
 use Rattle.model.specs.Store.{num}
 use Rattle.model.specs.Head.{dims, headOk}
-use Rattle.model.specs.Names.{Who, whoTests, customerOf}
+use Rattle.model.specs.Names.{Who, whoTests}
 use Rattle.model.specs.Lists.{largest}
 use Rattle.model.specs.Rows.{nextOrder, orderCustomer}
 use Rattle.model.specs.OrderStatus.{statusAsked, statusUsed, statusFault, statusCustomer, lastOrder}
 use Rattle.model.specs.Claim.{R}
-use Rattle.model.proofs.TestLaws.{every-each, passed, Passed, numbered, fault-parts}
+use Rattle.model.proofs.TestLaws.{every-each, passed, numbered, fault-parts}
 use Rattle.model.proofs.Fields.{Shaped, head-shaped}
 use Rattle.model.proofs.RowFacts.{DistrictIn, CustomerIn, OrderIn, district-in, orders-at}
 use Rattle.model.proofs.NameLaws.{found-number}

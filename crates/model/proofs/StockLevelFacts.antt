@@ -1,9 +1,9 @@
 -- What is known where a Stock-Level is not refused: cited by the code's proofs and by the theorem.
 -- Assumes nothing.
-use mathlib.Core.Path.{_≡_, refl, sym, ap, _∙_, subst}
+use mathlib.Core.Path.{_≡_, refl, sym, ap, _∙_}
 use mathlib.Core.Bool.{Bool, true, false, cond}
 use mathlib.Core.List.{List, [], _∷_, _++_}
-use Prim.Native.Nat.{ℕ, zero, suc, _+_, _-_, _≤_, _<_}
+use Prim.Native.Nat.{ℕ, _+_, _-_, _≤_, _<_}
 use native.Mathlib.Omega.{arith}
 use lib.Dec.{leb}
 use lib.ListN.{length}
@@ -11,7 +11,7 @@ use lib.IntN.{ℤ}
 use borrow.Author.Tests.{leb-true, leb-false}
 use Rattle.model.specs.declared.Dims.{Dims}
 use Rattle.model.specs.declared.StockLevel.{StockLevel}
-use Rattle.model.specs.Tests.{every, allTo, fault, Check, chk}
+use Rattle.model.specs.Tests.{fault, chk}
 use Rattle.model.specs.Layout.{shapes}
 use Rattle.model.specs.Store.{num}
 use Rattle.model.specs.Head.{dims, headOk}
@@ -19,7 +19,7 @@ use Rattle.model.specs.Rows.{nextOrder}
 use Rattle.model.specs.Used.{stockUsed, orderUsed}
 use Rattle.model.specs.StockLevel.{windowFirst, windowCount, levelAsked, windowUsed, levelUsed, stockLevelFault}
 use Rattle.model.specs.Claim.{R}
-use Rattle.model.proofs.TestLaws.{every-each, all-at, all-to, passed, Passed, numbered, fault-parts}
+use Rattle.model.proofs.TestLaws.{every-each, all-at, all-to, passed, numbered, fault-parts}
 use Rattle.model.proofs.Fields.{Shaped, head-shaped}
 use Rattle.model.proofs.RowFacts.{DistrictIn, StockIn, OrderIn, district-in, stock-in, order-in, in-order}
 

@@ -4,14 +4,13 @@ use mathlib.Core.Path.{_≡_, refl, sym, ap, _∙_}
 use mathlib.Core.Logic.{_≢_}
 use mathlib.Core.Bool.{Bool, true, false, _&&_, cond}
 use mathlib.Core.List.{List, [], _∷_, _++_}
-use Prim.Native.Nat.{ℕ, zero, suc, _+_, _≤_, _<_}
+use Prim.Native.Nat.{ℕ, zero, suc, _+_, _<_}
 use native.Mathlib.Omega.{arith}
 use native.Mathlib.Decide.{ℕ-discrete}
 use native.Mathlib.Numerals.{add-one}
 use lib.Dec.{ltb, eqb}
 use borrow.Author.Tests.{ltb-true, eqb-false}
-use Rattle.model.specs.declared.Refusal.{Refusal}
-use Rattle.model.specs.Tests.{andAll, every, allTo, Check, chk, refusal, fault}
+use Rattle.model.specs.Tests.{andAll, every, allTo, Check, refusal, fault}
 use Rattle.model.specs.Claim.{R}
 
 pub and-left : (a b : Bool) → (a && b) ≡ true → a ≡ true

@@ -12,7 +12,7 @@ use Rattle.model.specs.declared.Selection.{Selection}
 use Rattle.model.specs.declared.Selection.the-variants.{Number, LastName}
 use Rattle.model.specs.declared.Found.{Found}
 use Rattle.model.specs.declared.Found.the-variants.{Customer, Nobody}
-use Rattle.model.specs.Tests.{every, allTo}
+use Rattle.model.specs.Tests.{allTo}
 
 -- "Names are 32 bytes per customer, last then first, 16 each": where those of a customer start
 unfoldable pub namePlace : Dims → ℕ → ℕ → ℕ → ℕ

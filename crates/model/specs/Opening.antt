@@ -8,12 +8,12 @@ use lib.IntN.{ℤ}
 use lib.ListN.{length}
 use Rattle.model.specs.declared.Dims.{Dims}
 use Rattle.model.specs.declared.Refusal.{Refusal}
-use Rattle.model.specs.Tests.{every, allTo, Check, chk, fault}
+use Rattle.model.specs.Tests.{every, allTo, chk, fault}
 use Rattle.model.specs.Numbers.{nat, maxRate}
 use Rattle.model.specs.Layout.{shapes}
 use Rattle.model.specs.Store.{num, rowOf}
 use Rattle.model.specs.Head.{dims, headOk}
-use Rattle.model.specs.Rows.{historyCount, warehouseRow, districtRow, customerRow, price, itemTests, stockRow}
+use Rattle.model.specs.Rows.{historyCount, warehouseRow, districtRow, customerRow, stockRow}
 use Rattle.model.specs.Used.{itemUsed, namesUsed}
 use Rattle.model.specs.Answer.{Answer, answerBy}
 

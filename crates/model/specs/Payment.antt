@@ -1,6 +1,5 @@
 -- "Payment (depot, district, customer's depot and district, who, date, amount 100 to 500,000)."
 -- Assumes nothing.
-use mathlib.Core.Bool.{Bool, true, false, cond}
 use mathlib.Core.List.{List, [], _∷_, _++_}
 use Prim.Native.Nat.{ℕ, suc}
 use lib.Dec.{leb, ltb}

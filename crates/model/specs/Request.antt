@@ -1,6 +1,6 @@
 -- A request of any kind, and what carrying it out answers and leaves.
 -- Assumes nothing.
-use mathlib.Core.List.{List, [], _∷_}
+use mathlib.Core.List.{List}
 use Prim.Native.Nat.{ℕ, _-_}
 use lib.IntN.{ℤ}
 use lib.ListN.{getD, take}

@@ -1,11 +1,11 @@
 -- Request lines: which requests have one, its bytes, what reading a line answers, what writing leaves.
 -- Bytes: 9 tab, 10 the line's end, 32 space, 35 #, 48 to 57 digits, 61 =, 68 D, 76 L, 78 N, 80 P, 83 S.
 -- Assumes nothing.
-use mathlib.Core.Bool.{Bool, true, false, _&&_, _||_, not, cond}
+use mathlib.Core.Bool.{Bool, false, _&&_, _||_, not, cond}
 use mathlib.Core.List.{List, [], _∷_, _++_}
 use Prim.Native.Nat.{ℕ, zero, suc, _+_, _-_, _*_, _/_, _%_}
 use lib.Dec.{leb, ltb, eqb}
-use lib.IntN.{ℤ, pos}
+use lib.IntN.{pos}
 use lib.ListN.{length, getD, take, drop, replicate}
 use Rattle.model.specs.declared.Form.{Form}
 use Rattle.model.specs.declared.Form.the-variants as Form

@@ -1,7 +1,7 @@
 -- The rows of the book: their addresses by TPC-C's names, and what a used number of each kind may be.
 -- A row is a function of the column. Each kind of row has a list of tests; a number that is negative passes none but the balance's.
 -- Assumes nothing.
-use mathlib.Core.Bool.{Bool, true, false, _&&_}
+use mathlib.Core.Bool.{Bool, _&&_}
 use mathlib.Core.List.{List, [], _∷_}
 use Prim.Native.Nat.{ℕ, _+_, _*_}
 use lib.Dec.{leb}

@@ -1,6 +1,6 @@
 -- "The tally that history is judged by", a list of calls, and what it leaves.
 -- Assumes nothing.
-use mathlib.Core.Bool.{Bool, true, false, _&&_, cond}
+use mathlib.Core.Bool.{Bool, _&&_, cond}
 use mathlib.Core.List.{List, [], _∷_, _++_}
 use Prim.Native.Nat.{ℕ, zero, suc, _+_, _*_}
 use lib.Dec.{ltb, eqb}
@@ -8,7 +8,6 @@ use lib.IntN.{ℤ}
 use lib.ListN.{length, take}
 use Rattle.model.specs.declared.Delivery.{Delivery}
 use Rattle.model.specs.declared.Line.{Line}
-use Rattle.model.specs.declared.NewOrder.{NewOrder}
 use Rattle.model.specs.declared.Payment.{Payment}
 use Rattle.model.specs.Layout.{shapes}
 use Rattle.model.specs.Store.{num}

@@ -1,6 +1,6 @@
 -- Tests, and refusals as lists of numbered tests in checking order. `cond test a b` of the library is a where the test is true, else b.
 -- Assumes nothing.
-use mathlib.Core.Bool.{Bool, true, false, _&&_, cond}
+use mathlib.Core.Bool.{Bool, true, _&&_, cond}
 use mathlib.Core.List.{List, [], _∷_}
 use Prim.Native.Nat.{ℕ, zero, suc}
 use lib.Dec.{eqb}

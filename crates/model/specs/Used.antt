@@ -1,13 +1,13 @@
 -- Used rows: 9, "A used row or name holds a value out of range."
 -- Assumes nothing.
-use mathlib.Core.Bool.{Bool, true, false, _&&_, cond}
+use mathlib.Core.Bool.{Bool, true, _&&_, cond}
 use mathlib.Core.List.{List, [], _∷_}
 use Prim.Native.Nat.{ℕ, _-_}
 use lib.Dec.{leb}
 use lib.IntN.{ℤ}
 use Rattle.model.specs.declared.Dims.{Dims}
 use Rattle.model.specs.declared.Line.{Line}
-use Rattle.model.specs.Tests.{every, allTo, allOf}
+use Rattle.model.specs.Tests.{every, allTo}
 use Rattle.model.specs.Layout.{shapes}
 use Rattle.model.specs.Store.{num, rowOf}
 use Rattle.model.specs.Rows.{warehouseRow, warehouseTests, districtRow, districtTests, nextOrder, customerRow, customerTests, price, itemTests, stockRow, stockTests, orderRow, orderOk}
