@@ -1,26 +1,46 @@
 -- What a test of a row, made from the row's start, says of the row at its address; and a number read by the code.
 -- Assumes nothing.
-use mathlib.Core.Path.{_≡_, sym, ap, _∙_}
-use mathlib.Core.Bool.{Bool, true, false}
+use mathlib.Core.Path.{_≡_, sym, ap, _∙_, subst}
+use mathlib.Core.Bool.{Bool, true, false, not, _&&_}
 use mathlib.Core.List.{List}
-use Prim.Native.Nat.{ℕ, _+_, _*_, _≤_}
+use Prim.Native.Nat.{ℕ, _+_, _*_, _≤_, _<_}
 use native.Mathlib.Omega.{arith}
+use lib.Dec.{leb}
 use lib.IntN.{ℤ, pos}
 use lib.ListN.{getD}
-use borrow.Author.Tests.{leb-true}
+use borrow.Author.Tests.{leb-true, lt-leb, le-leb, not-true, not-false}
 use Rattle.model.specs.declared.Dims.{Dims}
 use Rattle.model.specs.Tests.{every}
 use Rattle.model.specs.Numbers.{nat, cell}
 use Rattle.model.specs.Layout.{at, place, shapes}
 use Rattle.model.specs.Store.{get, num, from}
 use Rattle.model.specs.Rows.{warehouseRow, warehouseTests, districtRow, districtTests, customerRow, customerTests, price, itemTests, stockRow, stockTests, slot, orderRow, orderTests, line, lineTests, orderOk}
+use Rattle.model.specs.Head.{dims, headOk}
 use Rattle.model.specs.Used.{warehouseUsed, districtUsed, customerUsed, itemUsed, stockUsed, orderUsed}
 use Rattle.model.proofs.TestLaws.{every-each}
-use Rattle.model.proofs.Fields.{Shaped, row-read, from-cell, line-from, num-col, get-col}
+use Rattle.model.proofs.Fields.{Shaped, head-shaped, row-read, from-cell, line-from, num-col, get-col}
 use Rattle.rows.specs.Book.{Booked, linesOk}
 
 pub shaped-booked : {d : Dims} {b : List ℤ} {n : ℕ} → Shaped d b n → Booked d b
 shaped-booked s = record { dimsd = s .dimsd; long = s .long }
+
+-- the book whose head a call has found in range, by the dimensions that it has read
+pub head-booked : (b : List ℤ) (n : ℕ) {d : Dims} → headOk b n ≡ true → d ≡ dims b → Booked d b
+head-booked b n h e = subst (λ (x : Dims). Booked x b) (sym e) (shaped-booked (head-shaped b n h))
+
+-- ── a test of a number that the code has read, by the branch that it took ──
+module _ {v x : ℕ} (e : v ≡ x) (n : ℕ) where
+  pub above : n < v → leb x n ≡ false
+  above h = ap (λ (y : ℕ). leb y n) (sym e) ∙ lt-leb _ _ h
+
+  pub within : v ≤ n → leb x n ≡ true
+  within h = ap (λ (y : ℕ). leb y n) (sym e) ∙ le-leb _ _ h
+
+  pub outside-one : not (leb 1 v && leb v n) ≡ true → (leb 1 x && leb x n) ≡ false
+  outside-one h = ap (λ (y : ℕ). leb 1 y && leb y n) (sym e) ∙ not-true (leb 1 v && leb v n) h
+
+  pub from-one : not (leb 1 v && leb v n) ≡ false → (leb 1 x && leb x n) ≡ true
+  from-one h = ap (λ (y : ℕ). leb 1 y && leb y n) (sym e) ∙ not-false (leb 1 v && leb v n) h
 
 -- ── an order's row from its start ──
 -- line j, from 0, of the order's row at p
