@@ -2,3 +2,4 @@
 pub mod Bytes
 pub mod Inserting
 pub mod Bridge
+pub mod Who

@@ -4,12 +4,13 @@ ghost use mathlib.Core.List.{_∷_, _++_};
 ghost use Prim.Native.Nat.{_+_, _-_, _*_, _≤_, _<_};
 ghost use lib.Dec.{leb};
 ghost use lib.ListN.{length, take, drop};
-ghost use Rattle.model.specs.Tests.{allTo};
+ghost use Rattle.model.specs.Tests.{every, allTo};
 ghost use Rattle.model.specs.Layout.{nameBytes};
-ghost use Rattle.model.specs.Names.{namePlace, nameAt, nameOk, padded, compareNames, insert, sorted, passing, found, whoOf, customerOf};
-ghost use Rattle.model.specs.Used.{namesUsed};
+ghost use Rattle.model.specs.Names.{namePlace, nameAt, nameOk, padded, compareNames, insert, sorted, passing, found, whoOf, customerOf, whoTests};
+ghost use Rattle.model.specs.Used.{namesUsed, whoUsed};
 ghost use Rattle.model.specs.Claim.{R};
 ghost use Rattle.model.proofs.Fields.{Dimensioned};
+ghost use Rattle.rows.specs.Book.{Booked};
 ghost use Rattle.lookup.specs.Listed.{namedFrom, beforeFrom, nameOkFrom, insertPlace, Listed, Holds};
 use model::Comparison;
 use model::Dims;
@@ -253,4 +254,33 @@ pub fn names_used(names: &[u8], d: Dims, w: u64, k: u64) -> bool
     ensures { λ r. ⌜ r ≡ namesUsed d (now (names .entry)) w k ⌝ }
 {
     names_ok(names, name_base(d, w, k), d.customers)
+}
+
+// A customer given by number is one of the district's.
+pub fn who_ok(d: Dims, who: Selection, name: &[u8]) -> bool
+    ensures { λ r. ⌜ r ≡ every (whoTests d (whoOf who (now (name .entry)))) ⌝ }
+{
+    match who {
+        Selection::Number(c) => (1 <= c) & (c <= d.customers),
+        Selection::LastName => true,
+    }
+}
+
+// The row of a customer given by number is in range, or by last name all rows and names of the district's customers.
+pub fn who_used(
+    b: &[i64],
+    names: &[u8],
+    d: Dims,
+    w: u64,
+    k: u64,
+    who: Selection,
+    name: &[u8],
+) -> bool
+    requires { ⌜ Booked d (now b) × (R (d .warehouses) w × (R 10 k × ((length (now names) ≡ nameBytes d) × (every (whoTests d (whoOf who (now name))) ≡ true)))) ⌝ }
+    ensures { λ r. ⌜ r ≡ whoUsed d (now (b .entry)) (now (names .entry)) w k (whoOf who (now (name .entry))) ⌝ }
+{
+    match who {
+        Selection::Number(c) => rows::customer_used(b, d, w, k, c),
+        Selection::LastName => rows::customers_used(b, d, w, k) & names_used(names, d, w, k),
+    }
 }

@@ -1,0 +1,56 @@
+use Rattle.lookup.proofs.Who.{number-in}
+use Rattle.model.specs.Used.{whoUsed}
+use Prim.Native.Nat.{_-_}
+use borrow.Author.Needs.{needs}
+use Rattle.lookup.proofs.who_used.Statement.{statement}
+use Rattle.lookup.proofs.who_used.Tie as tie
+use Rattle.lookup.proofs.who_used.Reads as reads
+use Rattle.lookup.proofs.who_used.Lts as lts
+use Rattle.lookup.proofs.names_used.Reads as names-used-reads
+use Rattle.rows.proofs.customer_used.Reads as customer-used-reads
+use Rattle.rows.proofs.customers_used.Reads as customers-used-reads
+
+-- src/lib.rt:283:27
+enum-known-who : tie.Need-enum-known-who
+enum-known-who c = search needs
+
+-- src/lib.rt:283:33
+customer-used-requires : tie.Need-customer-used-requires
+customer-used-requires c κs =
+    (c .before .before .before .before .before .pre .0, (c .before .before .before .before .before .pre .1 .0, (c .before .before .before .before .before .pre .1 .1 .0, number-in _ _ _ _ (c .before .who .given .1) (c .before .before .before .before .before .pre .1 .1 .1 .1))))
+
+-- src/lib.rt:284:32
+enum-told : tie.Need-enum-told
+enum-told c = search needs
+
+-- src/lib.rt:284:32
+customers-used-requires : tie.Need-customers-used-requires
+customers-used-requires c κs = search needs
+
+-- src/lib.rt:284:67
+names-used-requires : tie.Need-names-used-requires
+names-used-requires c κs = search needs
+
+-- src/lib.rt:270:1
+returns : tie.Need-returns
+unfolding whoUsed
+returns c =
+    rw (c .before .before .who .given .1) (c .customer-used .ensures)
+
+-- src/lib.rt:270:1
+returns-2 : tie.Need-returns-2
+unfolding whoUsed
+returns-2 c =
+    rw (c .before .before .enum-told .given .1, c .before .customers-used .ensures, c .names-used .ensures)
+
+pub who-used-spec : {M : Type 1} → statement M
+who-used-spec =
+    tie.close
+    (tie.spec
+    enum-known-who
+    customer-used-requires
+    enum-told
+    customers-used-requires
+    names-used-requires
+    returns
+    returns-2)

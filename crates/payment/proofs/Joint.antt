@@ -1,0 +1,149 @@
+-- What the code stores, having read everything before, is the model's list of changes done in turn; and the stages of a payment's tests.
+-- Assumes nothing.
+use mathlib.Core.Path.{_≡_, refl, sym, ap, _∙_}
+use mathlib.Core.Bool.{true, false}
+use mathlib.Core.List.{List, [], _∷_}
+use mathlib.Core.Logic.{_≢_}
+use Prim.Native.Nat.{ℕ, suc, _+_, _≤_}
+use native.Mathlib.Numerals.{add-one}
+use native.Mathlib.Omega.{arith}
+use borrow.Author.Tests.{eq-eqb, ne-eqb}
+use lib.ListN.{length, set, length-set}
+use lib.IntN.{ℤ, pos, _+ℤ_, _-ℤ_}
+use Rattle.model.specs.declared.Dims.{Dims}
+use Rattle.model.specs.declared.Payment.{Payment}
+use Rattle.model.specs.declared.Refusal.{Refusal}
+use Rattle.model.specs.Tests.{fault}
+use Rattle.model.specs.Head.{dims, headOk}
+use Rattle.model.specs.Answer.{committed, refused}
+use Rattle.model.specs.Layout.{at, shapes, place, numbers, total}
+use Rattle.model.specs.Store.{get, num}
+use Rattle.model.specs.Names.{Who}
+use Rattle.model.specs.Rows.{historyCount, warehouseYtd, districtYtd, balance, ytdPayment, paymentCnt, historyRow}
+use Rattle.model.specs.Payment.{payAsked, payUsed, paymentFault, payer, payOps, paymentCommit, paidBalance, paymentAnswer, paymentBook, historyNumbers}
+use Rattle.model.proofs.NumberLaws.{raised}
+use Rattle.model.proofs.Fields.{v7, row-end, head-place, place-col}
+use Rattle.model.proofs.Rewrite.{puts-row}
+use Rattle.model.proofs.InTurn.{in-turn}
+use Rattle.model.proofs.TestLaws.{fault-then, fault-first}
+use Rattle.model.proofs.PaymentFacts.{PayReady, pay-ready, pay-fine, pay-asked-numbered}
+use Rattle.payment.specs.declared.Payer.{Payer}
+use Rattle.payment.specs.Plan.{payerBy, nobody, Payable, planOf, storePlan, Small}
+
+pub ready-payable : {d : Dims} {b : List ℤ} {names : List ℕ} {q : Payment} {who : Who} → PayReady d b names q who → Payable d b q (payer d names q who)
+ready-payable r =
+    let s = r .shaped in
+    let a = r .asked in
+    let u = r .used in
+    record {
+      dimsd = s .dimsd;
+      long = s .long;
+      six = s .six;
+      w = a .w;
+      k = a .k;
+      cw = a .cw;
+      ck = a .ck;
+      rc = u .c;
+      date-high = a .date .hi;
+      amount-high = a .amount-high;
+      warehouse = u .warehouse;
+      district = u .district;
+      customer = u .customer;
+      room = u .room;
+    }
+
+pub payable-small : {d : Dims} {b : List ℤ} {q : Payment} {c : ℕ} → Payable d b q c → Small q c
+payable-small r = omega (arith, r .dimsd, r .w, r .k, r .cw, r .ck, r .rc)
+
+module _ (d : Dims) (b : List ℤ) (q : Payment) (c : ℕ) (r : Payable d b q c) where
+  long : length b ≡ total (shapes d)
+  unfolding numbers
+  long = r .long
+
+  room : place (shapes d) (historyRow (suc (num (shapes d) b historyCount))) + 7 ≤ length b
+  room =
+      let e = row-end (shapes d) 7 (suc (num (shapes d) b historyCount)) 1 1 6 (v7 d (record { lo = omega arith; hi = omega (arith, r .room) }) 6 (omega arith)) refl in
+      omega (arith, long, e)
+
+  pub plan-run : storePlan b (planOf d b q c) q c ≡ paymentCommit d b q c
+  unfolding storePlan planOf paymentCommit
+  plan-run =
+      let l = shapes d in
+      let h = num l b historyCount in
+      let t = in-turn l (payOps h q c) b long (pay-fine d q h c (r .w) (r .k) (r .cw) (r .ck) (r .rc) (r .room)) refl in
+      let h5 = place l (historyRow (suc h)) in
+      let b1 = set b (place l (warehouseYtd (q .warehouse))) (get l b (warehouseYtd (q .warehouse)) +ℤ pos (q .amount)) in
+      let b2 = set b1 (place l (districtYtd (q .warehouse) (q .district))) (get l b (districtYtd (q .warehouse) (q .district)) +ℤ pos (q .amount)) in
+      let b3 = set b2 (place l (balance (q .custwarehouse) (q .custdistrict) c)) (get l b (balance (q .custwarehouse) (q .custdistrict) c) -ℤ pos (q .amount)) in
+      let b4 = set b3 (place l (ytdPayment (q .custwarehouse) (q .custdistrict) c)) (get l b (ytdPayment (q .custwarehouse) (q .custdistrict) c) +ℤ pos (q .amount)) in
+      let b5 = set b4 (place l (paymentCnt (q .custwarehouse) (q .custdistrict) c)) (get l b (paymentCnt (q .custwarehouse) (q .custdistrict) c) +ℤ pos 1) in
+      rw (
+        raised (get (shapes d) b (warehouseYtd (q .warehouse))) (q .amount) (omega (arith, r .warehouse .ytd)),
+        raised (get (shapes d) b (districtYtd (q .warehouse) (q .district))) (q .amount) (omega (arith, r .district .ytd)),
+        raised (get (shapes d) b (ytdPayment (q .custwarehouse) (q .custdistrict) c)) (q .amount) (omega (arith, r .customer .paid)),
+        raised (get (shapes d) b (paymentCnt (q .custwarehouse) (q .custdistrict) c)) 1 (omega (arith, r .customer .payments)),
+        raised (get (shapes d) b historyCount) 1 (omega (arith, r .room, r .dimsd .histories-high)),
+        add-one,
+        puts-row (historyNumbers q c) h5 b5 (simp length-set room),
+      )
+      (rw (head-place d) at t)
+
+pub col : (d : Dims) (s x y z k : ℕ) → place (shapes d) (at s x y z 0) + k ≡ place (shapes d) (at s x y z k)
+col d s x y z k = place-col (shapes d) [] s x y z k
+
+module _ (b : List ℤ) (names : List ℕ) (q : Payment) (who : Who) where
+  -- ── the stages of tests, each where the one before finds nothing ──
+  pub head-fault : headOk b (length names) ≡ false → nobody 2 ≡ payerBy (paymentFault b names q who) (payer (dims b) names q who)
+  unfolding paymentFault
+  head-fault e = rw e
+
+  asked-is : {d : Dims} → d ≡ dims b → headOk b (length names) ≡ true → fault (payAsked d q who) .number ≢ 0 → fault (payAsked d q who) ≡ paymentFault b names q who
+  unfolding paymentFault
+  asked-is {d} e h f = rw (h, ← e) (sym (fault-first (payAsked d q who) (payUsed d b names q who) f))
+
+  used-is : {d : Dims} → d ≡ dims b → headOk b (length names) ≡ true → fault (payAsked d q who) .number ≡ 0 → fault (payUsed d b names q who) ≡ paymentFault b names q who
+  unfolding paymentFault
+  used-is {d} e h f = rw (h, ← e) (sym (fault-then (payAsked d q who) (payUsed d b names q who) f (pay-asked-numbered d q who)))
+
+  pub asked-fault : {d : Dims} {f : Refusal} → d ≡ dims b → headOk b (length names) ≡ true → f ≡ fault (payAsked d q who) → f .number ≢ 0
+      → record { refusal = f; customer = 0 } ≡ payerBy (paymentFault b names q who) (payer (dims b) names q who)
+  asked-fault {d} {f} e h p n =
+      let g : f ≡ paymentFault b names q who = p ∙ asked-is e h (λ z. n (ap (λ (x : Refusal). x .number) p ∙ z)) in
+      rw (← g, ne-eqb (f .number) 0 n)
+
+  pub used-fault : {d : Dims} {p : Payer} → d ≡ dims b → headOk b (length names) ≡ true → fault (payAsked d q who) .number ≡ 0
+      → p ≡ payerBy (fault (payUsed d b names q who)) (payer d names q who) → p ≡ payerBy (paymentFault b names q who) (payer (dims b) names q who)
+  used-fault {d} e h f g =
+      g
+      ∙ ap (λ (r : Refusal). payerBy r (payer d names q who)) (used-is e h f)
+      ∙ ap (λ (x : Dims). payerBy (paymentFault b names q who) (payer x names q who)) e
+
+  -- ── what the refusal and the payer say of the answer and the book ──
+  module _ {p : Payer} (e : p ≡ payerBy (paymentFault b names q who) (payer (dims b) names q who)) where
+    none : p .refusal .number ≡ 0 → paymentFault b names q who .number ≡ 0
+    none z = sym (ap (λ (x : Payer). x .refusal .number) e) ∙ z
+
+    who-pays : p .refusal .number ≡ 0 → p .customer ≡ payer (dims b) names q who
+    who-pays z = ap (λ (x : Payer). x .customer) e ∙ rw (eq-eqb (paymentFault b names q who .number) 0 (none z))
+
+    pub pays : p .refusal .number ≡ 0 → Payable (dims b) b q (p .customer)
+    pays z = rw (who-pays z) (ready-payable (pay-ready b names q who (none z)))
+
+    pub paid-answer : p .refusal .number ≡ 0 → committed (pos (p .customer) ∷ paidBalance (dims b) b q (p .customer) ∷ []) ≡ paymentAnswer b names q who
+    unfolding paymentAnswer
+    paid-answer z = rw (who-pays z, eq-eqb (paymentFault b names q who .number) 0 (none z))
+
+    pub paid-book : p .refusal .number ≡ 0 → paymentCommit (dims b) b q (p .customer) ≡ paymentBook b names q who
+    unfolding paymentBook
+    paid-book z = rw (who-pays z, eq-eqb (paymentFault b names q who .number) 0 (none z))
+
+    some-fault : p .refusal .number ≢ 0 → paymentFault b names q who .number ≢ 0
+    some-fault n z = n (ap (λ (x : Payer). x .refusal .number) e ∙ z)
+
+    pub kept-answer : p .refusal .number ≢ 0 → refused (p .refusal) ≡ paymentAnswer b names q who
+    unfolding paymentAnswer
+    kept-answer n = rw (ne-eqb (paymentFault b names q who .number) 0 (some-fault n)) (ap (λ (x : Payer). refused (x .refusal)) e)
+
+    pub kept-book : p .refusal .number ≢ 0 → b ≡ paymentBook b names q who
+    unfolding paymentBook
+    kept-book n = rw (ne-eqb (paymentFault b names q who .number) 0 (some-fault n))

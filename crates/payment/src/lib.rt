@@ -1,0 +1,272 @@
+ghost use mathlib.Core.Path.{_≡_};
+ghost use mathlib.Core.Bool.{true};
+ghost use mathlib.Core.List.{[], _∷_};
+ghost use Prim.Native.Nat.{_+_, _≤_, _<_};
+ghost use lib.Dec.{leb};
+ghost use lib.ListN.{length};
+ghost use Rattle.model.specs.Tests.{every, fault};
+ghost use Rattle.model.specs.Numbers.{maxDate};
+ghost use Rattle.model.specs.Head.{dims};
+ghost use Rattle.model.specs.Names.{whoOf};
+ghost use Rattle.model.specs.Answer.{paymentSays};
+ghost use Rattle.model.specs.Payment.{payAsked, payUsed, paymentFault, payer, historyNumbers, paidBalance, paymentCommit, paymentAnswer, paymentBook};
+ghost use Rattle.model.proofs.Fields.{Shaped};
+ghost use Rattle.model.proofs.PaymentFacts.{PayAsked};
+ghost use Rattle.model.proofs.Rewrite.{puts};
+ghost use Rattle.payment.specs.Plan.{payerBy, nobody, Payable, planOf, Storable, Small, storePlan};
+use model::Dims;
+use model::Found;
+use model::Payment;
+use model::PaymentAnswer;
+use model::PaymentFigures;
+use model::PaymentOutcome;
+use model::Refusal;
+use model::Selection;
+
+// The refusal of a payment, and who pays where there is none.
+pub struct Payer {
+    pub refusal: Refusal,
+    pub customer: u64,
+}
+
+// The numbers that a payment changes: where they stand, and what they become.
+pub struct Plan {
+    pub warehouse: u64,
+    pub warehouseytd: u64,
+    pub district: u64,
+    pub districtytd: u64,
+    pub balance: u64,
+    pub newbalance: i64,
+    pub paid: u64,
+    pub newpaid: u64,
+    pub payments: u64,
+    pub newpayments: u64,
+    pub history: u64,
+    pub count: u64,
+}
+
+// Both warehouses, and both districts, are ones of the book; the date and the amount are in range.
+fn warehouses_ok(d: Dims, q: Payment) -> bool
+    ensures { λ r. ⌜ r ≡ every (leb 1 (q .warehouse) ∷ leb (q .warehouse) (d .warehouses) ∷ leb 1 (q .custwarehouse) ∷ leb (q .custwarehouse) (d .warehouses) ∷ []) ⌝ }
+{
+    (1 <= q.warehouse)
+        & (q.warehouse <= d.warehouses)
+        & (1 <= q.custwarehouse)
+        & (q.custwarehouse <= d.warehouses)
+}
+
+fn districts_ok(q: Payment) -> bool
+    ensures { λ r. ⌜ r ≡ every (leb 1 (q .district) ∷ leb (q .district) 10 ∷ leb 1 (q .custdistrict) ∷ leb (q .custdistrict) 10 ∷ []) ⌝ }
+{
+    (1 <= q.district) & (q.district <= 10) & (1 <= q.custdistrict) & (q.custdistrict <= 10)
+}
+
+fn date_ok(q: Payment) -> bool
+    ensures { λ r. ⌜ r ≡ every (leb 1 (q .date) ∷ leb (q .date) maxDate ∷ []) ⌝ }
+{
+    (1 <= q.date) & (q.date <= 6342969600)
+}
+
+fn amount_ok(q: Payment) -> bool
+    ensures { λ r. ⌜ r ≡ every (leb 100 (q .amount) ∷ leb (q .amount) 500000 ∷ []) ⌝ }
+{
+    (100 <= q.amount) & (q.amount <= 500000)
+}
+
+// The first refusal that the request alone decides.
+fn asked(d: Dims, q: Payment, who: Selection, name: &[u8]) -> Refusal
+    ensures { λ r. ⌜ r ≡ fault (payAsked d q (whoOf who (now (name .entry)))) ⌝ }
+{
+    if !warehouses_ok(d, q) {
+        return Refusal {
+            number: 4,
+            detail: 0,
+        };
+    }
+    if !districts_ok(q) {
+        return Refusal {
+            number: 5,
+            detail: 0,
+        };
+    }
+    if !lookup::who_ok(d, who, name) {
+        return Refusal {
+            number: 6,
+            detail: 0,
+        };
+    }
+    if !date_ok(q) {
+        return Refusal {
+            number: 7,
+            detail: 0,
+        };
+    }
+    if !amount_ok(q) {
+        return Refusal {
+            number: 8,
+            detail: 0,
+        };
+    }
+    Refusal {
+        number: 0,
+        detail: 0,
+    }
+}
+
+// Nobody pays.
+fn refused(number: u64) -> Payer
+    ensures { λ r. ⌜ r ≡ nobody number ⌝ }
+{
+    let refusal = Refusal { number, detail: 0 };
+    Payer {
+        refusal,
+        customer: 0,
+    }
+}
+
+// The first refusal that the rows and names decide, and who pays.
+fn used(b: &[i64], names: &[u8], d: Dims, q: Payment, who: Selection, name: &[u8]) -> Payer
+    requires { ⌜ Shaped d (now b) (length (now names)) × PayAsked d q (whoOf who (now name)) ⌝ }
+    ensures { λ r. ⌜ r ≡ payerBy (fault (payUsed d (now (b .entry)) (now (names .entry)) q (whoOf who (now (name .entry))))) (payer d (now (names .entry)) q (whoOf who (now (name .entry)))) ⌝ }
+{
+    if !rows::warehouse_used(b, d, q.warehouse) {
+        return refused(9);
+    }
+    if !rows::district_used(b, d, q.warehouse, q.district) {
+        return refused(9);
+    }
+    if !lookup::who_used(b, names, d, q.custwarehouse, q.custdistrict, who, name) {
+        return refused(9);
+    }
+    let found = lookup::customer_of(names, d, q.custwarehouse, q.custdistrict, who, name);
+    let Found::Customer(c) = found else {
+        return refused(10);
+    };
+    let row = rows::history_count(b, d) + 1;
+    if d.histories < row {
+        return refused(11);
+    }
+    let refusal = Refusal {
+        number: 0,
+        detail: 0,
+    };
+    Payer {
+        refusal,
+        customer: c,
+    }
+}
+
+// The first refusal of a payment, and who pays where there is none.
+fn payer_of(b: &[i64], names: &[u8], q: Payment, who: Selection, name: &[u8]) -> Payer
+    ensures { λ r. ⌜ r ≡ payerBy (paymentFault (now (b .entry)) (now (names .entry)) q (whoOf who (now (name .entry)))) (payer (dims (now (b .entry))) (now (names .entry)) q (whoOf who (now (name .entry)))) ⌝ }
+{
+    if !layout::head_ok(b, names) {
+        return refused(2);
+    }
+    let d = layout::dims_of(b);
+    let refusal = asked(d, q, who, name);
+    if refusal.number == 0 {
+        return used(b, names, d, q, who, name);
+    }
+    Payer {
+        refusal,
+        customer: 0,
+    }
+}
+
+// The numbers that a payment changes, read before any is written.
+fn plan_of(b: &[i64], d: Dims, q: Payment, c: u64) -> Plan
+    requires { ⌜ Payable d (now b) q c ⌝ }
+    ensures { λ r. ⌜ (r ≡ planOf d (now (b .entry)) q c) × Storable (length (now (b .entry))) r ⌝ }
+{
+    let warehouse = layout::warehouse_at(d, q.warehouse) + 1;
+    let district = layout::district_at(d, q.warehouse, q.district) + 1;
+    let row = layout::customer_at(d, q.custwarehouse, q.custdistrict, c);
+    let warehouseytd = cells::get(b, warehouse) + q.amount;
+    let districtytd = cells::get(b, district) + q.amount;
+    let balance = row + 2;
+    let newbalance = cells::balance_less(cells::get_signed(b, balance), q.amount);
+    let paid = row + 3;
+    let newpaid = cells::get(b, paid) + q.amount;
+    let payments = row + 4;
+    let newpayments = cells::get(b, payments) + 1;
+    let count = cells::get(b, 5) + 1;
+    let history = layout::history_at(d, count);
+    Plan {
+        warehouse,
+        warehouseytd,
+        district,
+        districtytd,
+        balance,
+        newbalance,
+        paid,
+        newpaid,
+        payments,
+        newpayments,
+        history,
+        count,
+    }
+}
+
+// A history row, stored.
+fn store_history(b: &mut [i64], p: u64, q: Payment, c: u64)
+    requires { ⌜ (p + 7 ≤ length (now b)) × Small q c ⌝ }
+    ensures { λ r. ⌜ now (b .exit) ≡ puts (now (b .entry)) p 0 (historyNumbers q c) ⌝ }
+{
+    cells::put(b, p, c);
+    cells::put(b, p + 1, q.custdistrict);
+    cells::put(b, p + 2, q.custwarehouse);
+    cells::put(b, p + 3, q.district);
+    cells::put(b, p + 4, q.warehouse);
+    cells::put(b, p + 5, q.date);
+    cells::put(b, p + 6, q.amount);
+}
+
+// A plan, stored.
+fn store_plan(b: &mut [i64], p: Plan, q: Payment, c: u64)
+    requires { ⌜ Storable (length (now b)) p × Small q c ⌝ }
+    ensures { λ r. ⌜ now (b .exit) ≡ storePlan (now (b .entry)) p q c ⌝ }
+{
+    cells::put(b, p.warehouse, p.warehouseytd);
+    cells::put(b, p.district, p.districtytd);
+    cells::put_signed(b, p.balance, p.newbalance);
+    cells::put(b, p.paid, p.newpaid);
+    cells::put(b, p.payments, p.newpayments);
+    store_history(b, p.history, q, c);
+    cells::put(b, 5, p.count);
+}
+
+// A payment by customer c that no refusal applies to; answers the balance.
+fn commit(b: &mut [i64], q: Payment, c: u64) -> i64
+    requires { ⌜ Payable (dims (now b)) (now b) q c ⌝ }
+    ensures { λ r. ⌜ (r ≡ paidBalance (dims (now (b .entry))) (now (b .entry)) q c) × (now (b .exit) ≡ paymentCommit (dims (now (b .entry))) (now (b .entry)) q c) ⌝ }
+{
+    let d = layout::dims_of(b);
+    let p = plan_of(b, d, q, c);
+    store_plan(b, p, q, c);
+    p.newbalance
+}
+
+// Payment, by customer number or by last name.
+pub fn payment(
+    b: &mut [i64],
+    names: &[u8],
+    q: Payment,
+    who: Selection,
+    name: &[u8],
+) -> PaymentAnswer
+    ensures { λ r. ⌜ (paymentSays (r .outcome) ≡ paymentAnswer (now (b .entry)) (now (names .entry)) q (whoOf who (now (name .entry)))) × (now (b .exit) ≡ paymentBook (now (b .entry)) (now (names .entry)) q (whoOf who (now (name .entry)))) ⌝ }
+{
+    let payer = payer_of(b, names, q, who, name);
+    let refusal = payer.refusal;
+    if refusal.number == 0 {
+        let balance = commit(b, q, payer.customer);
+        let outcome = PaymentOutcome::Committed(PaymentFigures {
+            customer: payer.customer,
+            balance,
+        });
+        return PaymentAnswer { outcome };
+    }
+    let outcome = PaymentOutcome::Refused(refusal);
+    PaymentAnswer { outcome }
+}
