@@ -1,0 +1,243 @@
+ghost use mathlib.Core.Path.{_≡_};
+ghost use mathlib.Core.Bool.{true};
+ghost use mathlib.Core.List.{[], _∷_};
+ghost use Prim.Native.Nat.{_+_, _*_, _≤_};
+ghost use lib.Dec.{leb};
+ghost use lib.IntN.{pos};
+ghost use lib.ListN.{length};
+ghost use Rattle.model.specs.Tests.{every, fault};
+ghost use Rattle.model.specs.Layout.{shapes};
+ghost use Rattle.model.specs.Store.{get, num};
+ghost use Rattle.model.specs.Rows.{balance, lineCount};
+ghost use Rattle.model.specs.Head.{dims};
+ghost use Rattle.model.specs.Names.{whoOf};
+ghost use Rattle.model.specs.Lists.{largest};
+ghost use Rattle.model.specs.Used.{districtUsed};
+ghost use Rattle.model.specs.Answer.{statusSays};
+ghost use Rattle.model.specs.OrderStatus.{statusAsked, statusUsed, statusFault, lastOrder, statusCustomer, statusOrder, orderShown, linesShown, statusAnswer, statusLines};
+ghost use Rattle.model.specs.Claim.{R};
+ghost use Rattle.model.proofs.Fields.{Shaped};
+ghost use Rattle.model.proofs.StatusFacts.{StatusAsked};
+ghost use Rattle.rows.specs.Book.{Booked};
+ghost use Rattle.order_status.specs.Seen.{seenBy, nothing, isAt};
+use model::Dims;
+use model::Found;
+use model::OrderStatus;
+use model::Refusal;
+use model::Selection;
+use model::StatusFigures;
+use model::StatusOutcome;
+
+// The refusal of a status, and the customer and its last order where there is none; order 0 where it has no order.
+pub struct Seen {
+    pub refusal: Refusal,
+    pub customer: u64,
+    pub order: u64,
+}
+
+// The warehouse and the district are ones of the book.
+fn warehouse_ok(d: Dims, q: OrderStatus) -> bool
+    ensures { λ r. ⌜ r ≡ every (leb 1 (q .warehouse) ∷ leb (q .warehouse) (d .warehouses) ∷ []) ⌝ }
+{
+    (1 <= q.warehouse) & (q.warehouse <= d.warehouses)
+}
+
+fn district_ok(q: OrderStatus) -> bool
+    ensures { λ r. ⌜ r ≡ every (leb 1 (q .district) ∷ leb (q .district) 10 ∷ []) ⌝ }
+{
+    (1 <= q.district) & (q.district <= 10)
+}
+
+// The first refusal that the request alone decides.
+fn asked(d: Dims, q: OrderStatus, who: Selection, name: &[u8]) -> Refusal
+    ensures { λ r. ⌜ r ≡ fault (statusAsked d q (whoOf who (now (name .entry)))) ⌝ }
+{
+    if !warehouse_ok(d, q) {
+        return Refusal {
+            number: 4,
+            detail: 0,
+        };
+    }
+    if !district_ok(q) {
+        return Refusal {
+            number: 5,
+            detail: 0,
+        };
+    }
+    if !lookup::who_ok(d, who, name) {
+        return Refusal {
+            number: 6,
+            detail: 0,
+        };
+    }
+    Refusal {
+        number: 0,
+        detail: 0,
+    }
+}
+
+// Nothing is seen.
+fn refused(number: u64) -> Seen
+    ensures { λ r. ⌜ r ≡ nothing number ⌝ }
+{
+    let refusal = Refusal { number, detail: 0 };
+    Seen {
+        refusal,
+        customer: 0,
+        order: 0,
+    }
+}
+
+// The last of n orders' rows, the first of which starts at base, that is of a customer; 0 where none is.
+fn last_of(b: &[i64], base: u64, c: u64, n: u64) -> u64
+    requires { ⌜ base + 81 * n ≤ length (now b) ⌝ }
+    ensures { λ r. ⌜ r ≡ largest (isAt (now (b .entry)) base c) n ⌝ }
+{
+    let mut o = n;
+    while 0 < o {
+        let customer = cells::get(b, base + 81 * (o - 1));
+        if customer == c {
+            return o;
+        }
+        o -= 1;
+    }
+    0
+}
+
+// The largest order number of a customer, 0 where it has none; the district's row has been found in range.
+fn last_order(b: &[i64], d: Dims, w: u64, k: u64, c: u64) -> u64
+    requires { ⌜ Booked d (now b) × (R (d .warehouses) w × (R 10 k × (districtUsed d (now b) w k ≡ true))) ⌝ }
+    ensures { λ r. ⌜ r ≡ lastOrder d (now (b .entry)) w k c ⌝ }
+{
+    let next = rows::next_order(b, d, w, k);
+    let base = layout::order_at(d, w, k, 1);
+    let n = next - 1;
+    last_of(b, base, c, n)
+}
+
+// The first refusal that the rows and names decide, the customer and its last order.
+fn used(b: &[i64], names: &[u8], d: Dims, q: OrderStatus, who: Selection, name: &[u8]) -> Seen
+    requires { ⌜ Shaped d (now b) (length (now names)) × StatusAsked d q (whoOf who (now name)) ⌝ }
+    ensures { λ r. ⌜ r ≡ seenBy (fault (statusUsed d (now (b .entry)) (now (names .entry)) q (whoOf who (now (name .entry))))) (statusCustomer d (now (names .entry)) q (whoOf who (now (name .entry)))) (statusOrder d (now (b .entry)) (now (names .entry)) q (whoOf who (now (name .entry)))) ⌝ }
+{
+    if !rows::district_used(b, d, q.warehouse, q.district) {
+        return refused(9);
+    }
+    if !lookup::who_used(b, names, d, q.warehouse, q.district, who, name) {
+        return refused(9);
+    }
+    if !rows::orders_used(b, d, q.warehouse, q.district) {
+        return refused(9);
+    }
+    let found = lookup::customer_of(names, d, q.warehouse, q.district, who, name);
+    let Found::Customer(c) = found else {
+        return refused(10);
+    };
+    let order = last_order(b, d, q.warehouse, q.district, c);
+    let refusal = Refusal {
+        number: 0,
+        detail: 0,
+    };
+    Seen {
+        refusal,
+        customer: c,
+        order,
+    }
+}
+
+// The first refusal of a status, the customer and its last order.
+fn seen_of(b: &[i64], names: &[u8], q: OrderStatus, who: Selection, name: &[u8]) -> Seen
+    ensures { λ r. ⌜ r ≡ seenBy (statusFault (now (b .entry)) (now (names .entry)) q (whoOf who (now (name .entry)))) (statusCustomer (dims (now (b .entry))) (now (names .entry)) q (whoOf who (now (name .entry)))) (statusOrder (dims (now (b .entry))) (now (b .entry)) (now (names .entry)) q (whoOf who (now (name .entry)))) ⌝ }
+{
+    if !layout::head_ok(b, names) {
+        return refused(2);
+    }
+    let d = layout::dims_of(b);
+    let refusal = asked(d, q, who, name);
+    if refusal.number == 0 {
+        return used(b, names, d, q, who, name);
+    }
+    Seen {
+        refusal,
+        customer: 0,
+        order: 0,
+    }
+}
+
+// Customer, balance, and an order's number, date and carrier.
+fn figures_of(b: &[i64], d: Dims, q: OrderStatus, c: u64, o: u64) -> StatusFigures
+    requires { ⌜ Booked d (now b) × (R (d .warehouses) (q .warehouse) × (R 10 (q .district) × (R (d .customers) c × (o ≤ d .orders)))) ⌝ }
+    ensures { λ r. ⌜ (r .customer ≡ c) × ((r .balance ≡ get (shapes d) (now (b .entry)) (balance (q .warehouse) (q .district) c)) × (pos (r .order) ∷ pos (r .date) ∷ pos (r .carrier) ∷ [] ≡ orderShown d (now (b .entry)) (q .warehouse) (q .district) o)) ⌝ }
+{
+    let balance = rows::balance_of(b, d, q.warehouse, q.district, c);
+    if o == 0 {
+        return StatusFigures {
+            customer: c,
+            balance,
+            order: 0,
+            date: 0,
+            carrier: 0,
+        };
+    }
+    let date = rows::entry_date(b, d, q.warehouse, q.district, o);
+    let carrier = rows::order_carrier(b, d, q.warehouse, q.district, o);
+    StatusFigures {
+        customer: c,
+        balance,
+        order: o,
+        date,
+        carrier,
+    }
+}
+
+// The lines of an order, as that part of the book.
+fn lines_of<'a>(b: &'a [i64], d: Dims, w: u64, k: u64, o: u64) -> &'a [i64]
+    requires { ⌜ Booked d (now b) × (R (d .warehouses) w × (R 10 k × (R (d .orders) o × (num (shapes d) (now b) (lineCount d w k o) ≤ 15)))) ⌝ }
+    ensures { λ r. ⌜ now r ≡ linesShown d (now (b .entry)) w k o ⌝ }
+{
+    let n = rows::line_count(b, d, w, k, o);
+    let p = layout::order_at(d, w, k, o);
+    let start = p + 6;
+    let end = p + 6 + n * 5;
+    let from = start as usize;
+    let to = end as usize;
+    &b[from..to]
+}
+
+// Order-Status, by customer number or by last name: the figures.
+pub fn status_outcome(
+    b: &[i64],
+    names: &[u8],
+    q: OrderStatus,
+    who: Selection,
+    name: &[u8],
+) -> StatusOutcome
+    ensures { λ r. ⌜ statusSays r ≡ statusAnswer (now (b .entry)) (now (names .entry)) q (whoOf who (now (name .entry))) ⌝ }
+{
+    let seen = seen_of(b, names, q, who, name);
+    let refusal = seen.refusal;
+    if refusal.number == 0 {
+        let d = layout::dims_of(b);
+        let figures = figures_of(b, d, q, seen.customer, seen.order);
+        return StatusOutcome::Committed(figures);
+    }
+    StatusOutcome::Refused(refusal)
+}
+
+// Order-Status: the lines of the order, as that part of the lent book; an empty part where there is no order to show.
+pub fn status_lines<'a>(
+    b: &'a [i64],
+    names: &[u8],
+    q: OrderStatus,
+    who: Selection,
+    name: &[u8],
+) -> &'a [i64]
+    ensures { λ r. ⌜ now r ≡ statusLines (now (b .entry)) (now (names .entry)) q (whoOf who (now (name .entry))) ⌝ }
+{
+    let seen = seen_of(b, names, q, who, name);
+    if seen.order == 0 {
+        return &b[0..0];
+    }
+    let d = layout::dims_of(b);
+    lines_of(b, d, q.warehouse, q.district, seen.order)
+}
