@@ -1,0 +1,7 @@
+-- The modules of the crate's proofs that belong to no one function.
+pub mod Zipped
+pub mod Stages
+pub mod Taking
+pub mod Filling
+pub mod Pricing
+pub mod Joining
