@@ -4,7 +4,7 @@ ghost use mathlib.Core.List.{[], _∷_};
 ghost use Prim.Native.Nat.{_+_, _*_, _≤_};
 ghost use lib.Dec.{leb};
 ghost use lib.IntN.{pos};
-ghost use lib.ListN.{length};
+ghost use lib.ListN.{length, take, drop};
 ghost use Rattle.model.specs.Tests.{every, fault};
 ghost use Rattle.model.specs.Layout.{shapes};
 ghost use Rattle.model.specs.Store.{get, num};
@@ -35,13 +35,20 @@ pub struct Seen {
     pub order: u64,
 }
 
-// The warehouse and the district are ones of the book.
+// A part of the book's numbers: where it starts, and how many they are.
+pub struct Part {
+    pub from: u64,
+    pub count: u64,
+}
+
+// The warehouse is one of the book.
 fn warehouse_ok(d: Dims, q: OrderStatus) -> bool
     ensures { λ r. ⌜ r ≡ every (leb 1 (q .warehouse) ∷ leb (q .warehouse) (d .warehouses) ∷ []) ⌝ }
 {
     (1 <= q.warehouse) & (q.warehouse <= d.warehouses)
 }
 
+// The district is one of a warehouse.
 fn district_ok(q: OrderStatus) -> bool
     ensures { λ r. ⌜ r ≡ every (leb 1 (q .district) ∷ leb (q .district) 10 ∷ []) ⌝ }
 {
@@ -190,18 +197,16 @@ fn figures_of(b: &[i64], d: Dims, q: OrderStatus, c: u64, o: u64) -> StatusFigur
     }
 }
 
-// The lines of an order, as that part of the book.
-fn lines_of<'a>(b: &'a [i64], d: Dims, w: u64, k: u64, o: u64) -> &'a [i64]
-    requires { ⌜ Booked d (now b) × (R (d .warehouses) w × (R 10 k × (R (d .orders) o × (num (shapes d) (now b) (lineCount d w k o) ≤ 15)))) ⌝ }
-    ensures { λ r. ⌜ now r ≡ linesShown d (now (b .entry)) w k o ⌝ }
+// Where the lines of an order start in the book, and how many numbers they are.
+fn part_of(b: &[i64], d: Dims, w: u64, k: u64, o: u64) -> Part
+    requires { ⌜ Booked d (now b) × (R (d .warehouses) w × (R 10 k × (R (d .orders) o × R 15 (num (shapes d) (now b) (lineCount d w k o))))) ⌝ }
+    ensures { λ r. ⌜ (r .from + r .count ≤ length (now (b .entry))) × (take (r .count) (drop (r .from) (now (b .entry))) ≡ linesShown d (now (b .entry)) w k o) ⌝ }
 {
     let n = rows::line_count(b, d, w, k, o);
     let p = layout::order_at(d, w, k, o);
-    let start = p + 6;
-    let end = p + 6 + n * 5;
-    let from = start as usize;
-    let to = end as usize;
-    &b[from..to]
+    let from = p + 6;
+    let count = n * 5;
+    Part { from, count }
 }
 
 // Order-Status, by customer number or by last name: the figures.
@@ -224,6 +229,18 @@ pub fn status_outcome(
     StatusOutcome::Refused(refusal)
 }
 
+// Order-Status: where the lines of the order are in the book; no numbers where there is no order to show.
+pub fn status_part(b: &[i64], names: &[u8], q: OrderStatus, who: Selection, name: &[u8]) -> Part
+    ensures { λ r. ⌜ (r .from + r .count ≤ length (now (b .entry))) × (take (r .count) (drop (r .from) (now (b .entry))) ≡ statusLines (now (b .entry)) (now (names .entry)) q (whoOf who (now (name .entry)))) ⌝ }
+{
+    let seen = seen_of(b, names, q, who, name);
+    if seen.order == 0 {
+        return Part { from: 0, count: 0 };
+    }
+    let d = layout::dims_of(b);
+    part_of(b, d, q.warehouse, q.district, seen.order)
+}
+
 // Order-Status: the lines of the order, as that part of the lent book; an empty part where there is no order to show.
 pub fn status_lines<'a>(
     b: &'a [i64],
@@ -234,10 +251,10 @@ pub fn status_lines<'a>(
 ) -> &'a [i64]
     ensures { λ r. ⌜ now r ≡ statusLines (now (b .entry)) (now (names .entry)) q (whoOf who (now (name .entry))) ⌝ }
 {
-    let seen = seen_of(b, names, q, who, name);
-    if seen.order == 0 {
-        return &b[0..0];
-    }
-    let d = layout::dims_of(b);
-    lines_of(b, d, q.warehouse, q.district, seen.order)
+    let part = status_part(b, names, q, who, name);
+    let end = part.from + part.count;
+    let start = part.from;
+    let from = start as usize;
+    let to = end as usize;
+    &b[from..to]
 }

@@ -83,7 +83,7 @@ module _ (d : Dims) (b : List ℤ) (q : Payment) (c : ℕ) (r : Payable d b q c)
         raised (get (shapes d) b (ytdPayment (q .custwarehouse) (q .custdistrict) c)) (q .amount) (omega (arith, r .customer .paid)),
         raised (get (shapes d) b (paymentCnt (q .custwarehouse) (q .custdistrict) c)) 1 (omega (arith, r .customer .payments)),
         raised (get (shapes d) b historyCount) 1 (omega (arith, r .room, r .dimsd .histories-high)),
-        add-one,
+        add-one (num (shapes d) b historyCount),
         puts-row (historyNumbers q c) h5 b5 (simp length-set room),
       )
       (rw (head-place d) at t)

@@ -1,7 +1,6 @@
 ghost use mathlib.Core.Path.{_≡_};
-ghost use mathlib.Core.Bool.{true};
 ghost use mathlib.Core.List.{[], _∷_};
-ghost use Prim.Native.Nat.{_+_, _≤_, _<_};
+ghost use Prim.Native.Nat.{_+_, _≤_};
 ghost use lib.Dec.{leb};
 ghost use lib.ListN.{length};
 ghost use Rattle.model.specs.Tests.{every, fault};
@@ -45,7 +44,7 @@ pub struct Plan {
     pub count: u64,
 }
 
-// Both warehouses, and both districts, are ones of the book; the date and the amount are in range.
+// Both warehouses are ones of the book.
 fn warehouses_ok(d: Dims, q: Payment) -> bool
     ensures { λ r. ⌜ r ≡ every (leb 1 (q .warehouse) ∷ leb (q .warehouse) (d .warehouses) ∷ leb 1 (q .custwarehouse) ∷ leb (q .custwarehouse) (d .warehouses) ∷ []) ⌝ }
 {
@@ -55,18 +54,21 @@ fn warehouses_ok(d: Dims, q: Payment) -> bool
         & (q.custwarehouse <= d.warehouses)
 }
 
+// Both districts are ones of a warehouse.
 fn districts_ok(q: Payment) -> bool
     ensures { λ r. ⌜ r ≡ every (leb 1 (q .district) ∷ leb (q .district) 10 ∷ leb 1 (q .custdistrict) ∷ leb (q .custdistrict) 10 ∷ []) ⌝ }
 {
     (1 <= q.district) & (q.district <= 10) & (1 <= q.custdistrict) & (q.custdistrict <= 10)
 }
 
+// The date is in range.
 fn date_ok(q: Payment) -> bool
     ensures { λ r. ⌜ r ≡ every (leb 1 (q .date) ∷ leb (q .date) maxDate ∷ []) ⌝ }
 {
     (1 <= q.date) & (q.date <= 6342969600)
 }
 
+// The amount is in range.
 fn amount_ok(q: Payment) -> bool
     ensures { λ r. ⌜ r ≡ every (leb 100 (q .amount) ∷ leb (q .amount) 500000 ∷ []) ⌝ }
 {

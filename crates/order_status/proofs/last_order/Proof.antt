@@ -30,7 +30,7 @@ last-of-requires : tie.Need-last-of-requires
 last-of-requires c κs =
     let u = district-in (c .before .before .args .d) (c .before .before .args .b .now) (c .before .before .args .w) (c .before .before .args .k) (c .before .before .pre .1 .1 .1) in
     let h : c .before .next-order .result - 1 ≤ c .before .before .args .d .orders = omega (arith, u .next-high, c .before .next-order .ensures) in
-    rw (c .before .before .pre .0 .long) (run-end (c .before .before .args .d) (c .before .before .args .b .now) (c .before .before .args .w) (c .before .before .args .k) (c .before .before .pre .1 .0) (c .before .before .pre .1 .1 .0) _ h (c .order-at .ensures .0) (c .order-at .ensures .1))
+    omega (arith, c .before .before .pre .0 .long, run-end (c .before .before .args .d) (c .before .before .args .b .now) (c .before .before .args .w) (c .before .before .args .k) (c .before .before .pre .1 .0) (c .before .before .pre .1 .1 .0) (c .before .next-order .result - 1) h (c .order-at .ensures .0) (c .order-at .ensures .1))
 
 -- src/lib.rt:108:1
 returns : tie.Need-returns
