@@ -1,0 +1,25 @@
+use mathlib.Core.Path.{_∙_, ap, sym}
+use Rattle.capi.specs.Flat.{oneOut}
+use borrow.Author.Needs.{needs}
+use Rattle.capi.proofs.book_stock_level.Statement.{statement}
+use Rattle.capi.proofs.book_stock_level.Tie as tie
+use Rattle.capi.proofs.book_stock_level.Reads as reads
+use Rattle.capi.proofs.book_stock_level.Lts as lts
+use Rattle.capi.proofs.stock_level_out.Reads as stock-level-out-reads
+use Rattle.stock_level.proofs.stock_level.Reads as stock-level-reads
+
+-- src/lib.rt:235:9
+stock-level-requires : tie.Need-stock-level-requires
+stock-level-requires c κs = search needs
+
+-- src/lib.rt:237:12
+stock-level-out-requires : tie.Need-stock-level-out-requires
+stock-level-out-requires c κs = search needs
+
+-- src/lib.rt:219:1
+returns : tie.Need-returns
+returns c =
+    c .stock-level-out .ensures ∙ ap oneOut (c .before .stock-level .ensures)
+
+pub book-stock-level-spec : {M : Type 1} → statement M
+book-stock-level-spec = tie.close (tie.spec stock-level-requires stock-level-out-requires returns)

@@ -1,0 +1,6 @@
+-- Laws of the crate's code.
+pub mod Walk
+pub mod Forms
+pub mod Whos
+pub mod WhoForms
+pub mod Putting

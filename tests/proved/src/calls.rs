@@ -1,0 +1,251 @@
+//! The exported functions, as include/book.h declares them, and the engine over them.
+
+use second::replay::{Engine, Lent};
+use second::{
+    Delivery, DeliveryAnswer, DeliveryFigures, Line, NewOrder, NewOrderFigures, OrderStatus,
+    OrderStatusAnswer, OrderStatusFigures, Outcome, Payment, PaymentFigures, Refusal, Request,
+    StockLevel, StockLevelFigures, Who,
+};
+
+extern "C" {
+    fn book_opening(nums: *const i64, nums_len: usize, names: *const u8, names_len: usize, out: *mut u64);
+    fn book_new_order(
+        nums: *mut i64,
+        nums_len: usize,
+        names: *const u8,
+        names_len: usize,
+        warehouse: u64,
+        district: u64,
+        customer: u64,
+        date: u64,
+        items: *const u64,
+        items_len: usize,
+        supplies: *const u64,
+        supplies_len: usize,
+        quantities: *const u64,
+        quantities_len: usize,
+        out: *mut u64,
+    );
+    fn book_payment(
+        nums: *mut i64,
+        nums_len: usize,
+        names: *const u8,
+        names_len: usize,
+        warehouse: u64,
+        district: u64,
+        custwarehouse: u64,
+        custdistrict: u64,
+        named: bool,
+        number: u64,
+        name: *const u8,
+        name_len: usize,
+        date: u64,
+        amount: u64,
+        out: *mut u64,
+        balance: *mut i64,
+    );
+    fn book_delivery(
+        nums: *mut i64,
+        nums_len: usize,
+        names: *const u8,
+        names_len: usize,
+        warehouse: u64,
+        carrier: u64,
+        date: u64,
+        out: *mut u64,
+        orders: *mut u64,
+    );
+    fn book_order_status(
+        nums: *const i64,
+        nums_len: usize,
+        names: *const u8,
+        names_len: usize,
+        warehouse: u64,
+        district: u64,
+        named: bool,
+        number: u64,
+        name: *const u8,
+        name_len: usize,
+        out: *mut u64,
+        balance: *mut i64,
+    );
+    fn book_stock_level(
+        nums: *const i64,
+        nums_len: usize,
+        names: *const u8,
+        names_len: usize,
+        warehouse: u64,
+        district: u64,
+        threshold: u64,
+        out: *mut u64,
+    );
+}
+
+/// The proved library.
+pub struct ProvedEngine;
+
+/// The outcome that the first two figures say.
+fn outcome<F>(out: &[u64], figures: F) -> Outcome<F> {
+    match out[0] {
+        0 => Outcome::Committed(figures),
+        number => Outcome::Refused(Refusal { number, detail: out[1] }),
+    }
+}
+
+/// Who as the calls take it: whether by name, the number, the name.
+fn who(who: &Who) -> (bool, u64, &[u8]) {
+    match who {
+        Who::Number(number) => (false, *number, &[]),
+        Who::LastName(name) => (true, 0, name),
+    }
+}
+
+fn column(lines: &[Line], field: impl Fn(&Line) -> u64) -> Vec<u64> {
+    lines.iter().map(field).collect()
+}
+
+impl Engine for ProvedEngine {
+    fn open(&mut self, lent: &Lent) -> Outcome<()> {
+        let mut out = [0; 2];
+        // SAFETY: each pointer goes with its slice's length, and the out array has the length that the header names; so for every call below.
+        unsafe {
+            book_opening(lent.nums.as_ptr(), lent.nums.len(), lent.names.as_ptr(), lent.names.len(), out.as_mut_ptr());
+        }
+        outcome(&out, ())
+    }
+
+    fn new_order(&mut self, lent: &mut Lent, request: &NewOrder) -> Outcome<NewOrderFigures> {
+        let items = column(&request.lines, |line| line.item);
+        let supplies = column(&request.lines, |line| line.supply_warehouse);
+        let quantities = column(&request.lines, |line| line.quantity);
+        let mut out = [0; 4];
+        unsafe {
+            book_new_order(
+                lent.nums.as_mut_ptr(),
+                lent.nums.len(),
+                lent.names.as_ptr(),
+                lent.names.len(),
+                request.warehouse,
+                request.district,
+                request.customer,
+                request.date,
+                items.as_ptr(),
+                items.len(),
+                supplies.as_ptr(),
+                supplies.len(),
+                quantities.as_ptr(),
+                quantities.len(),
+                out.as_mut_ptr(),
+            );
+        }
+        outcome(&out, NewOrderFigures { order: out[2], total: out[3] })
+    }
+
+    fn payment(&mut self, lent: &mut Lent, request: &Payment) -> Outcome<PaymentFigures> {
+        let (named, number, name) = who(&request.who);
+        let mut out = [0; 3];
+        let mut balance = [0; 1];
+        unsafe {
+            book_payment(
+                lent.nums.as_mut_ptr(),
+                lent.nums.len(),
+                lent.names.as_ptr(),
+                lent.names.len(),
+                request.warehouse,
+                request.district,
+                request.customer_warehouse,
+                request.customer_district,
+                named,
+                number,
+                name.as_ptr(),
+                name.len(),
+                request.date,
+                request.amount,
+                out.as_mut_ptr(),
+                balance.as_mut_ptr(),
+            );
+        }
+        outcome(&out, PaymentFigures { customer: out[2], balance: balance[0] })
+    }
+
+    fn delivery(&mut self, lent: &mut Lent, request: &Delivery) -> DeliveryAnswer {
+        let mut out = [0; 4];
+        let mut orders = [0; 10];
+        unsafe {
+            book_delivery(
+                lent.nums.as_mut_ptr(),
+                lent.nums.len(),
+                lent.names.as_ptr(),
+                lent.names.len(),
+                request.warehouse,
+                request.carrier,
+                request.date,
+                out.as_mut_ptr(),
+                orders.as_mut_ptr(),
+            );
+        }
+        DeliveryAnswer {
+            outcome: outcome(&out, DeliveryFigures { skip_count: out[2], skip_mark: out[3] }),
+            orders,
+        }
+    }
+
+    fn order_status<'a>(&mut self, lent: &'a Lent, request: &OrderStatus) -> OrderStatusAnswer<'a> {
+        let (named, number, name) = who(&request.who);
+        let mut out = [0; 8];
+        let mut balance = [0; 1];
+        unsafe {
+            book_order_status(
+                lent.nums.as_ptr(),
+                lent.nums.len(),
+                lent.names.as_ptr(),
+                lent.names.len(),
+                request.warehouse,
+                request.district,
+                named,
+                number,
+                name.as_ptr(),
+                name.len(),
+                out.as_mut_ptr(),
+                balance.as_mut_ptr(),
+            );
+        }
+        let figures = OrderStatusFigures {
+            customer: out[2],
+            balance: balance[0],
+            order: out[3],
+            entry_date: out[4],
+            carrier: out[5],
+        };
+        let from = out[6] as usize;
+        OrderStatusAnswer {
+            outcome: outcome(&out, figures),
+            lines: &lent.nums[from..from + out[7] as usize],
+        }
+    }
+
+    fn stock_level(&mut self, lent: &Lent, request: &StockLevel) -> Outcome<StockLevelFigures> {
+        let mut out = [0; 3];
+        unsafe {
+            book_stock_level(
+                lent.nums.as_ptr(),
+                lent.nums.len(),
+                lent.names.as_ptr(),
+                lent.names.len(),
+                request.warehouse,
+                request.district,
+                request.threshold,
+                out.as_mut_ptr(),
+            );
+        }
+        outcome(&out, StockLevelFigures { low_stock: out[2] })
+    }
+
+    fn read(&mut self, line: &[u8]) -> Outcome<Request> {
+        second::read_line(line)
+    }
+
+    fn write(&mut self, request: &Request, buffer: &mut [u8]) -> Outcome<u64> {
+        second::write_line(request, buffer)
+    }
+}

@@ -1,0 +1,7 @@
+//! The proved library behind the trait that the replay program drives.
+//!
+//! Each call passes the lent slices on as they stand; nothing is judged here.
+
+mod calls;
+
+pub use calls::ProvedEngine;
