@@ -11,7 +11,7 @@ ghost use Rattle.model.specs.StockLevel.{stockLevelAnswer};
 ghost use Prim.Native.Nat.{_+_, _≤_};
 ghost use lib.ListN.{length, getD, take};
 ghost use Rattle.capi.specs.Flat.{bareOut, oneOut, twoOut, balanceOut, statusOut, partIn, selectionOf, newOrderOf, paymentOf, deliveryOf, statusOf, stockLevelOf};
-ghost use Rattle.new_order.specs.Lines.{linesOf};
+ghost use Rattle.model.specs.Request.{linesOf};
 use model::Delivery;
 use model::DeliveryOutcome;
 use model::NewOrder;

@@ -21,11 +21,12 @@ use Rattle.model.specs.declared.StockLevel.{StockLevel}
 use Rattle.model.specs.Answer.{committed, refused}
 use Rattle.model.specs.Names.{Who}
 use Rattle.model.specs.Tests.{allOf}
-use Rattle.model.specs.Request.{Request, newOrder, payment, delivery, orderStatus, stockLevel}
+use Rattle.model.specs.Request.{Request, newOrder, payment, delivery, orderStatus, stockLevel, linesOf, lineAt}
+use Rattle.model.proofs.Zipped.{rest-cons}
 use Rattle.model.specs.RequestLine.{isNumber, isDigit, hasDigits, decimal, hasWho, lineSmall, hasForm, letter, lineFields, fieldsOf, tabbed, lineOf, refused1, writeFault, writeAnswer, writeBuffer}
 use Rattle.model.proofs.TestLaws.{every-each, and-left, and-right}
 use Rattle.model.proofs.DecimalLaws.{number-written, dec-small, dec-more}
-use Rattle.lines.specs.Writing.{linesOf, lineAt, Put, Whole}
+use Rattle.lines.specs.Writing.{Put, Whole}
 
 -- ── digits ──
 -- a store after a run of stores
@@ -92,14 +93,6 @@ count-is (i ∷ is) (s ∷ ss) (q ∷ qs) zero a b c h = absurd (h (omega arith)
 count-is (i ∷ is) (s ∷ ss) (q ∷ qs) (suc n) a b c h =
     ap suc (count-is is ss qs n (omega arith) (omega arith) (omega arith) (λ x y z. h (omega arith) (omega arith) (omega arith)))
 
-pub lines-cons : (is ss qs : List ℕ) (i : ℕ) → i < length (linesOf is ss qs) → drop i (linesOf is ss qs) ≡ lineAt is ss qs i ∷ drop (i + 1) (linesOf is ss qs)
-unfolding linesOf
-lines-cons [] ss qs i h = absurd (omega arith)
-lines-cons (x ∷ is) [] qs i h = absurd (omega arith)
-lines-cons (x ∷ is) (s ∷ ss) [] i h = absurd (omega arith)
-lines-cons (x ∷ is) (s ∷ ss) (q ∷ qs) zero h = refl
-lines-cons (x ∷ is) (s ∷ ss) (q ∷ qs) (suc i) h = rw (suc-add i 1) (lines-cons is ss qs i (omega arith))
-
 take-lines : (ls : List Line) (l : Line) (rest : List Line) (i : ℕ) → drop i ls ≡ l ∷ rest → take (i + 1) ls ≡ take i ls ++ (l ∷ [])
 take-lines [] l rest zero e = absurd (let y : _≡_ {A = ℕ} 0 (suc (length rest)) = ap length e in omega arith)
 take-lines [] l rest (suc i) e = absurd (let y : _≡_ {A = ℕ} 0 (suc (length rest)) = ap length e in omega arith)
@@ -114,11 +107,11 @@ module _ (is ss qs : List ℕ) (i : ℕ) (h : i < length (linesOf is ss qs)) whe
   -- the fields of one line more
   pub fields-more : lineFields (take (i + 1) (linesOf is ss qs)) ≡ lineFields (take i (linesOf is ss qs)) ++ lineFields (lineAt is ss qs i ∷ [])
   fields-more =
-      ap lineFields (take-lines (linesOf is ss qs) (lineAt is ss qs i) (drop (i + 1) (linesOf is ss qs)) i (lines-cons is ss qs i h))
+      ap lineFields (take-lines (linesOf is ss qs) (lineAt is ss qs i) (drop (i + 1) (linesOf is ss qs)) i (rest-cons is ss qs i h))
       ∙ fields-append (take i (linesOf is ss qs)) (lineAt is ss qs i ∷ [])
 
   pub smalls-step : allOf lineSmall (drop i (linesOf is ss qs)) ≡ (lineSmall (lineAt is ss qs i) && allOf lineSmall (drop (i + 1) (linesOf is ss qs)))
-  smalls-step = ap (allOf lineSmall) (lines-cons is ss qs i h)
+  smalls-step = ap (allOf lineSmall) (rest-cons is ss qs i h)
 
 pub smalls-end : (is ss qs : List ℕ) (i : ℕ) → length (linesOf is ss qs) ≤ i → allOf lineSmall (drop i (linesOf is ss qs)) ≡ true
 smalls-end is ss qs i h = ap (allOf lineSmall) (drop-of-length-le (linesOf is ss qs) h)

@@ -1,25 +1,13 @@
--- The lines of a New-Order that are lent as three lists, and what a writer of fields leaves.
+-- What a writer of fields leaves.
 -- Assumes nothing.
 use mathlib.Core.Path.{_≡_}
-use mathlib.Core.List.{List, [], _∷_, _++_}
+use mathlib.Core.List.{List, _++_}
 use Prim.Native.Nat.{ℕ, _+_, _≤_}
-use lib.ListN.{length, getD, take}
-use Rattle.model.specs.declared.Line.{Line}
+use lib.ListN.{length, take}
 use Rattle.model.specs.declared.WriteAnswer.{WriteAnswer}
 use Rattle.model.specs.declared.WriteOutcome.the-variants as WriteCase
 use Rattle.model.specs.Request.{Request}
 use Rattle.model.specs.RequestLine.{tabbed, lineOf, refused1}
-
--- line i is entry i of the three; there are as many as the shortest has entries
-unfoldable pub linesOf : List ℕ → List ℕ → List ℕ → List Line
-linesOf [] ss qs = []
-linesOf (i ∷ is) [] qs = []
-linesOf (i ∷ is) (s ∷ ss) [] = []
-linesOf (i ∷ is) (s ∷ ss) (q ∷ qs) = record { item = i; supply = s; quantity = q } ∷ linesOf is ss qs
-
--- entry i of the three
-abbrev pub lineAt : List ℕ → List ℕ → List ℕ → ℕ → Line
-lineAt is ss qs i = record { item = getD is i 0; supply = getD ss i 0; quantity = getD qs i 0 }
 
 -- fields with their tabs written from a place on, and the place after them
 pub record Put (old new : List ℕ) (at next : ℕ) (fs : List (List ℕ)) : Type 0 where

@@ -11,6 +11,7 @@ pub mod RuleLaws
 pub mod MarkLaws
 pub mod DecimalLaws
 pub mod LineLaws
+pub mod Zipped
 pub mod RowFacts
 pub mod Order
 pub mod Ordering

@@ -17,6 +17,8 @@ use Rattle.model.specs.declared.StockLevelOutcome.{StockLevelOutcome}
 use Rattle.model.specs.declared.StockLevelOutcome.the-variants as StockLevelCase
 use Rattle.model.specs.declared.OpeningOutcome.{OpeningOutcome}
 use Rattle.model.specs.declared.OpeningOutcome.the-variants as OpeningCase
+use Rattle.model.specs.declared.RequestOutcome.{RequestOutcome}
+use Rattle.model.specs.declared.RequestOutcome.the-variants as RequestCase
 
 pub data Answer : Type 0 where
   committed : List ℤ → Answer
@@ -54,3 +56,11 @@ statusSays (StatusCase.Refused r) = refused r
 abbrev pub stockLevelSays : StockLevelOutcome → Answer
 stockLevelSays (StockLevelCase.Committed f) = committed (pos (f .count) ∷ [])
 stockLevelSays (StockLevelCase.Refused r) = refused r
+
+-- that of a request of any kind
+abbrev pub requestSays : RequestOutcome → Answer
+requestSays (RequestCase.NewOrder o) = newOrderSays o
+requestSays (RequestCase.Payment o) = paymentSays o
+requestSays (RequestCase.Delivery o) = deliverySays o
+requestSays (RequestCase.OrderStatus o) = statusSays o
+requestSays (RequestCase.StockLevel o) = stockLevelSays o

@@ -17,5 +17,6 @@ pub mod OrderStatus
 pub mod StockLevel
 pub mod Request
 pub mod RequestLine
+pub mod AnswerLine
 pub mod Tally
 pub mod Claim

@@ -11,6 +11,7 @@ pub struct Dims {
 }
 
 // One line of a New-Order: the item, the supplying warehouse, the quantity.
+#[repr(C)]
 pub struct Line {
     pub item: u64,
     pub supply: u64,
@@ -144,6 +145,12 @@ pub enum StatusOutcome {
     Refused(Refusal),
 }
 
+// A part of the book's numbers: where it starts, and how many they are.
+pub struct Part {
+    pub from: u64,
+    pub count: u64,
+}
+
 pub struct StockLevelFigures {
     pub count: u64,
 }
@@ -155,6 +162,22 @@ pub enum StockLevelOutcome {
 
 pub struct StockLevelAnswer {
     pub outcome: StockLevelOutcome,
+}
+
+// What a request of any kind is answered.
+pub enum RequestOutcome {
+    NewOrder(NewOrderOutcome),
+    Payment(PaymentOutcome),
+    Delivery(DeliveryOutcome),
+    OrderStatus(StatusOutcome),
+    StockLevel(StockLevelOutcome),
+}
+
+// Beside the outcome stand Delivery's ten order numbers, 0 for any other request, and the part of the book that a status shows, empty for any other.
+pub struct RequestAnswer {
+    pub outcome: RequestOutcome,
+    pub orders: [u64; 10],
+    pub part: Part,
 }
 
 // A request as reading stores it: its form, and beside it the lines and the last name, of which those in use are part of the request.

@@ -15,9 +15,9 @@ use Rattle.model.specs.Store.{remap}
 use Rattle.model.specs.NewOrder.{amountsOf, lineNumbers}
 use Rattle.model.proofs.Frame.{length-remap}
 use Rattle.model.proofs.Rewrite.{remap-none, remap-more, puts, puts-row}
-use Rattle.new_order.specs.Lines.{lineOf, linesOf, lineAt}
+use Rattle.model.specs.Request.{linesOf, lineAt}
 use Rattle.new_order.specs.Slot.{headNumbers, five, numbersBy, fill}
-use Rattle.new_order.proofs.Zipped.{line-is}
+use Rattle.model.proofs.Zipped.{noLine, line-is}
 
 -- ── m numbers written after k others ──
 pub remap-then : (p k m : ℕ) (f g : ℕ → ℤ → ℤ) (b : List ℤ) → p + (k + m) ≤ length b → ((i : ℕ) (y z : ℤ) → i < m → f (k + i) y ≡ g i z)
@@ -70,8 +70,8 @@ line-filled is ss qs xs p n i b₀ b {l} {a} e h k room el ea eb {c} s =
     let f = fill (numbersBy ls xs) in
     let lb : length b ≡ length b₀ = ap length eb ∙ length-remap p (5 * i) 0 f b₀ in
     let r = puts-row (five l a) (p + 5 * i) b (omega arith) in
-    let q : l ≡ getD ls i (lineOf 0 0 0) = el ∙ sym (line-is is ss qs i (lineOf 0 0 0) (omega arith)) in
-    let t = remap-then p (5 * i) 5 f (fill (five l a)) b₀ (omega arith) (λ j y z g. by-at ls xs i j (lineOf 0 0 0) (omega arith) (omega arith) g ∙ sym (ap (λ (x : Line). getD (five x a) j (pos 0)) q ∙ ap (λ (x : ℕ). getD (five (getD ls i (lineOf 0 0 0)) x) j (pos 0)) ea)) in
+    let q : l ≡ getD ls i noLine = el ∙ sym (line-is is ss qs i noLine (omega arith)) in
+    let t = remap-then p (5 * i) 5 f (fill (five l a)) b₀ (omega arith) (λ j y z g. by-at ls xs i j noLine (omega arith) (omega arith) g ∙ sym (ap (λ (x : Line). getD (five x a) j (pos 0)) q ∙ ap (λ (x : ℕ). getD (five (getD ls i noLine) x) j (pos 0)) ea)) in
     let m : 5 * i + 5 ≡ 5 * (i + 1) = omega arith in
     s ∙ r ∙ ap (λ (x : List ℤ). remap (p + 5 * i) 5 0 (fill (five l a)) x) eb ∙ t ∙ ap (λ (x : ℕ). remap p x 0 f b₀) m
 

@@ -23,6 +23,7 @@ ghost use Rattle.order_status.specs.Seen.{seenBy, nothing, isAt};
 use model::Dims;
 use model::Found;
 use model::OrderStatus;
+use model::Part;
 use model::Refusal;
 use model::Selection;
 use model::StatusFigures;
@@ -33,12 +34,6 @@ pub struct Seen {
     pub refusal: Refusal,
     pub customer: u64,
     pub order: u64,
-}
-
-// A part of the book's numbers: where it starts, and how many they are.
-pub struct Part {
-    pub from: u64,
-    pub count: u64,
 }
 
 // The warehouse is one of the book.

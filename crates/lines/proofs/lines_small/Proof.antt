@@ -5,7 +5,7 @@ use native.Mathlib.Omega.{arith}
 use lib.ListN.{length, drop}
 use Rattle.model.specs.Tests.{allOf}
 use Rattle.model.specs.RequestLine.{lineSmall}
-use Rattle.lines.specs.Writing.{linesOf}
+use Rattle.model.specs.Request.{linesOf}
 use Rattle.lines.proofs.Putting.{small-stop, small-again, smalls-end}
 use Rattle.lines.proofs.lines_small.Statement.{statement}
 use Rattle.lines.proofs.lines_small.Tie as tie

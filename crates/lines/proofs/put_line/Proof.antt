@@ -2,9 +2,8 @@ use borrow.Author.Needs.{needs}
 use mathlib.Core.Path.{_≡_, subst}
 use mathlib.Core.Bool.{true}
 use Rattle.model.specs.declared.Form.{Form}
-use Rattle.model.specs.Request.{requestOf}
+use Rattle.model.specs.Request.{requestOf, linesOf}
 use Rattle.model.specs.RequestLine.{hasForm}
-use Rattle.lines.specs.Writing.{linesOf}
 use borrow.Author.Needs.{needs}
 use Rattle.lines.proofs.put_line.Statement.{statement}
 use Rattle.lines.proofs.put_line.Tie as tie

@@ -4,7 +4,8 @@ use Prim.Native.Nat.{_+_, _*_, _≤_, _-_, _<_}
 use native.Mathlib.Omega.{arith}
 use lib.ListN.{length, take}
 use Rattle.model.specs.RequestLine.{lineFields}
-use Rattle.lines.specs.Writing.{linesOf, Put}
+use Rattle.model.specs.Request.{linesOf}
+use Rattle.lines.specs.Writing.{Put}
 use Rattle.lines.proofs.Putting.{put-none, put-more, put-all, small-at}
 use Rattle.lines.proofs.put_lines.Statement.{statement}
 use Rattle.lines.proofs.put_lines.Tie as tie

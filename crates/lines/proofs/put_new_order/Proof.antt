@@ -3,7 +3,7 @@ use mathlib.Core.Path.{refl, _∙_}
 use native.Mathlib.Omega.{arith}
 use lib.ListN.{length-set}
 use Rattle.model.specs.RequestLine.{fieldsOf}
-use Rattle.lines.specs.Writing.{linesOf}
+use Rattle.model.specs.Request.{linesOf}
 use Rattle.lines.proofs.Putting.{small-order, put-then, whole-of}
 use borrow.Author.Needs.{needs}
 use Rattle.lines.proofs.put_new_order.Statement.{statement}
