@@ -1,3 +1,4 @@
+use mathlib.Core.Path.{refl}
 use Rattle.model.specs.Request.{answerOf, ordersOf, shownOf, after}
 use borrow.Author.Needs.{needs}
 use Rattle.engine.proofs.order_status.Statement.{statement}
@@ -19,7 +20,7 @@ status-part-requires c κs = search needs
 returns : tie.Need-returns
 unfolding answerOf ordersOf shownOf after
 returns c =
-    search needs
+    record { says = c .before .status-outcome .ensures; orders = refl; within = c .status-part .ensures .0; shows = c .status-part .ensures .1; leaves = refl }
 
 pub order-status-spec : {M : Type 1} → statement M
 order-status-spec = tie.close (tie.spec status-outcome-requires status-part-requires returns)

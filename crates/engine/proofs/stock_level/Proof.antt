@@ -1,3 +1,4 @@
+use mathlib.Core.Path.{refl}
 use Rattle.model.specs.Request.{answerOf, ordersOf, shownOf, after}
 use borrow.Author.Needs.{needs}
 use Rattle.engine.proofs.stock_level.Statement.{statement}
@@ -14,7 +15,7 @@ stock-level-requires c κs = search needs
 returns : tie.Need-returns
 unfolding answerOf ordersOf shownOf after
 returns c =
-    search needs
+    record { says = c .stock-level .ensures; orders = refl; within = search needs; shows = refl; leaves = refl }
 
 pub stock-level-spec : {M : Type 1} → statement M
 stock-level-spec = tie.close (tie.spec stock-level-requires returns)
