@@ -19,7 +19,7 @@ same-length c = search needs
 returns : tie.Need-returns
 unfolding answerOf ordersOf shownOf after
 returns c =
-    record { says = c .before .new-order .ensures .0; orders = refl; within = search needs; shows = refl; leaves = c .before .new-order .ensures .1 }
+    record { kind = refl; says = c .before .new-order .ensures .0; orders = refl; within = search needs; shows = refl; leaves = c .before .new-order .ensures .1 }
 
 pub new-order-spec : {M : Type 1} → statement M
 new-order-spec = tie.close (tie.spec new-order-requires same-length returns)

@@ -20,7 +20,7 @@ status-part-requires c κs = search needs
 returns : tie.Need-returns
 unfolding answerOf ordersOf shownOf after
 returns c =
-    record { says = c .before .status-outcome .ensures; orders = refl; within = c .status-part .ensures .0; shows = c .status-part .ensures .1; leaves = refl }
+    record { kind = refl; says = c .before .status-outcome .ensures; orders = refl; within = c .status-part .ensures .0; shows = c .status-part .ensures .1; leaves = refl }
 
 pub order-status-spec : {M : Type 1} → statement M
 order-status-spec = tie.close (tie.spec status-outcome-requires status-part-requires returns)
