@@ -1,3 +1,4 @@
 -- Laws of the crate's code.
 pub mod Filled
 pub mod Telling
+pub mod Blocks

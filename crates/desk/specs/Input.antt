@@ -1,12 +1,11 @@
 -- Input in blocks: the line that is not yet ended, and the book.
 -- Assumes nothing.
-use mathlib.Core.Path.{_≡_}
-use mathlib.Core.Bool.{Bool, true, false, cond}
+use mathlib.Core.Bool.{cond}
 use mathlib.Core.List.{List, [], _∷_, _++_}
-use Prim.Native.Nat.{ℕ, _≤_}
+use Prim.Native.Nat.{ℕ}
 use lib.Dec.{ltb, eqb}
 use lib.IntN.{ℤ}
-use lib.ListN.{length, take}
+use lib.ListN.{length}
 use Rattle.model.specs.RequestLine.{readLine}
 use Rattle.model.specs.AnswerLine.{leftAfter}
 
@@ -23,13 +22,3 @@ bookAfter b names p (x ∷ xs) = cond (eqb x 10) (bookAfter (leftAfter b names (
 unfoldable pub lineAfter : List ℕ → List ℕ → List ℕ
 lineAfter p [] = p
 lineAfter p (x ∷ xs) = cond (eqb x 10) (lineAfter [] xs) (lineAfter (kept p x) xs)
-
--- where the output is open, the whole block was carried out
-pub record FedWhole (n : ℕ) (left : List ℤ) (line : List ℕ) (after : List ℤ) (so : List ℕ) : Type 0 where
-  pub few : n ≤ 1024
-  pub book : left ≡ after
-  pub rest : take n line ≡ so
-
-abbrev pub FedSays : Bool → ℕ → List ℤ → List ℕ → List ℤ → List ℕ → Type 0
-FedSays true n left line after so = FedWhole n left line after so
-FedSays false n left line after so = n ≤ 1024

@@ -1,8 +1,9 @@
 // The program's desk: its book, one request line answered, and standard input answered line by line.
 ghost use mathlib.Core.Path.{_≡_};
-ghost use mathlib.Core.Bool.{cond};
+ghost use mathlib.Core.Bool.{true, cond};
 ghost use mathlib.Core.List.{_++_};
 ghost use Prim.Native.Nat.{_≤_, _<_};
+ghost use lib.Dec.{eqb};
 ghost use lib.IntN.{pos};
 ghost use lib.ListN.{length, take, drop, replicate};
 ghost use Rattle.model.specs.RequestLine.{readLine};
@@ -11,7 +12,7 @@ ghost use Rattle.model.specs.AnswerLine.{answerLine, printedFor, leftAfter};
 ghost use Rattle.model.proofs.Listing.{programBook, programNames};
 ghost use Rattle.answers.specs.Writing.{withLine, lengthIf};
 ghost use Rattle.desk.specs.Step.{requestIn, Held, roomy};
-ghost use Rattle.desk.specs.Input.{bookAfter, lineAfter, FedSays};
+ghost use Rattle.desk.specs.Input.{kept, bookAfter, lineAfter};
 ghost use Rattle.desk.specs.Filling.{headTo, districtsTo, pricesTo, stocksTo, twoNames};
 use libc::STDIN_FILENO;
 use libc::STDOUT_FILENO;
@@ -156,7 +157,7 @@ pub fn step(b: &mut [i64], names: &[u8], line: &[u8], out: &mut [u8]) -> usize
     }
 }
 
-// How far the input is read: the bytes of a line not yet ended, and whether the output still takes answers.
+// The bytes of a line not yet ended, and whether the output still takes answers.
 struct Fed {
     len: usize,
     open: bool,
@@ -171,27 +172,48 @@ fn reply(b: &mut [i64], names: &[u8], line: &[u8]) -> bool
     io::write_all(STDOUT_FILENO, &out[0..n])
 }
 
-// A block of input: each line that it ends is answered. Of an overlong line the first bytes are kept, which have no form.
+// A byte put to a line so far. Of an overlong line the first 1,024 bytes are kept, which have no form.
+fn keep(line: &mut [u8], n: usize, x: u8) -> usize
+    requires { ⌜ (length (now line) ≡ 1024) × (n ≤ 1024) ⌝ }
+    ensures { λ r. ⌜ (take r (now (line .exit)) ≡ kept (take n (now (line .entry))) x) × (r ≤ 1024) ⌝ }
+{
+    if n < 1024 {
+        line[n] = x;
+        return n + 1;
+    }
+    n
+}
+
+// After a byte: the line is answered where the byte ends it.
+fn end_line(b: &mut [i64], names: &[u8], line: &[u8], n: usize, x: u8) -> Fed
+    requires { ⌜ n ≤ length (now line) ⌝ }
+    ensures { λ r. ⌜ (r .len ≡ cond (eqb x 10) 0 n) × (now (b .exit) ≡ cond (eqb x 10) (leftAfter (now (b .entry)) (now (names .entry)) (readLine (take n (now (line .entry))))) (now (b .entry))) ⌝ }
+{
+    if x == 10 {
+        let open = reply(b, names, &line[0..n]);
+        return Fed { len: 0, open };
+    }
+    Fed { len: n, open: true }
+}
+
+// A block of input: each line that it ends is answered.
 fn feed(b: &mut [i64], names: &[u8], line: &mut [u8], len: usize, block: &[u8]) -> Fed
     requires { ⌜ (length (now line) ≡ 1024) × (len ≤ 1024) ⌝ }
-    ensures { λ r. ⌜ FedSays (r .open) (r .len) (now (b .exit)) (now (line .exit)) (bookAfter (now (b .entry)) (now (names .entry)) (take len (now (line .entry))) (now (block .entry))) (lineAfter (take len (now (line .entry))) (now (block .entry))) ⌝ }
+    ensures { λ r. ⌜ (r .len ≤ 1024) × (r .open ≡ true → (now (b .exit) ≡ bookAfter (now (b .entry)) (now (names .entry)) (take len (now (line .entry))) (now (block .entry))) × (take (r .len) (now (line .exit)) ≡ lineAfter (take len (now (line .entry))) (now (block .entry)))) ⌝ }
 {
     let mut n = len;
     let mut i = 0;
     while i < block.len() {
         let x = block[i];
-        if n < line.len() {
-            line[n] = x;
-            n += 1;
-        }
-        if x == 10 {
-            if !reply(b, names, &line[0..n]) {
-                return Fed {
-                    len: 0,
-                    open: false,
-                };
-            }
-            n = 0;
+        n = keep(line, n, x);
+        let fed = end_line(b, names, line, n, x);
+        if fed.open {
+            n = fed.len;
+        } else {
+            return Fed {
+                len: 0,
+                open: false,
+            };
         }
         i += 1;
     }
@@ -214,10 +236,11 @@ fn serve(b: &mut [i64], names: &[u8]) {
             return;
         }
         let fed = feed(b, names, &mut line, len, &block[0..n]);
-        if !fed.open {
+        if fed.open {
+            len = fed.len;
+        } else {
             return;
         }
-        len = fed.len;
         turns -= 1;
     }
 }

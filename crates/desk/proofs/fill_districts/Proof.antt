@@ -18,7 +18,8 @@ abbrev μ-loop : tie.MeasureT-loop
 
 -- src/lib.rt:27:5
 loop-holds : tie.Need-loop-holds Inv-loop μ-loop
-loop-holds c = search needs
+loop-holds c =
+    (search needs, (search needs, districts-none _))
 
 -- src/lib.rt:28:15
 mul-b : tie.Need-mul-b Inv-loop μ-loop
@@ -50,7 +51,8 @@ mul-b-4 c = search needs
 
 -- src/lib.rt:29:9
 slice-set-of-b-2 : tie.Need-slice-set-of-b-2 Inv-loop μ-loop
-slice-set-of-b-2 c = search needs
+slice-set-of-b-2 c =
+    simp length-set (omega (arith, c .before .loop .inv .1 .0, (c .before .before .pre), c .loop-test .taken))
 
 -- src/lib.rt:30:16
 mul-b-5 : tie.Need-mul-b-5 Inv-loop μ-loop
@@ -66,7 +68,8 @@ mul-b-6 c = search needs
 
 -- src/lib.rt:30:9
 slice-set-of-b-3 : tie.Need-slice-set-of-b-3 Inv-loop μ-loop
-slice-set-of-b-3 c = search needs
+slice-set-of-b-3 c =
+    simp length-set (omega (arith, c .before .loop .inv .1 .0, (c .before .before .pre), c .loop-test .taken))
 
 -- src/lib.rt:31:9
 add-k : tie.Need-add-k Inv-loop μ-loop
@@ -78,7 +81,8 @@ loop-less c = search needs
 
 -- src/lib.rt:27:5
 loop-again : tie.Need-loop-again Inv-loop μ-loop
-loop-again c = search needs
+loop-again c =
+    (search needs, (simp length-set (c .before .loop .inv .1 .0), rw (districts-step, ← c .before .loop .inv .1 .1)))
 
 -- src/lib.rt:22:1
 same-length : tie.Need-same-length Inv-loop μ-loop
@@ -86,7 +90,8 @@ same-length c = search needs
 
 -- src/lib.rt:22:1
 returns : tie.Need-returns Inv-loop μ-loop
-returns c = search needs
+returns c =
+    at-end (λ k. districtsTo k (c .before .before .args .b .now)) (c .before .loop .inv .0) (c .loop-test .left) (c .before .loop .inv .1 .1)
 
 pub fill-districts-spec : {M : Type 1} → statement M
 fill-districts-spec =

@@ -1,3 +1,7 @@
+use native.Mathlib.Omega.{arith}
+use mathlib.Core.Path.{refl}
+use lib.ListN.{length-set}
+use Rattle.desk.specs.Filling.{headTo}
 use borrow.Author.Needs.{needs}
 use Rattle.desk.proofs.fill_head.Statement.{statement}
 use Rattle.desk.proofs.fill_head.Tie as tie
@@ -10,23 +14,28 @@ slice-set-of-b c = search needs
 
 -- src/lib.rt:56:5
 slice-set-of-b-2 : tie.Need-slice-set-of-b-2
-slice-set-of-b-2 c = ?
+slice-set-of-b-2 c =
+    simp length-set (omega (arith, (c .pre)))
 
 -- src/lib.rt:57:5
 slice-set-of-b-3 : tie.Need-slice-set-of-b-3
-slice-set-of-b-3 c = ?
+slice-set-of-b-3 c =
+    simp length-set (omega (arith, (c .pre)))
 
 -- src/lib.rt:58:5
 slice-set-of-b-4 : tie.Need-slice-set-of-b-4
-slice-set-of-b-4 c = ?
+slice-set-of-b-4 c =
+    simp length-set (omega (arith, (c .pre)))
 
 -- src/lib.rt:59:5
 slice-set-of-b-5 : tie.Need-slice-set-of-b-5
-slice-set-of-b-5 c = ?
+slice-set-of-b-5 c =
+    simp length-set (omega (arith, (c .pre)))
 
 -- src/lib.rt:60:5
 slice-set-of-b-6 : tie.Need-slice-set-of-b-6
-slice-set-of-b-6 c = ?
+slice-set-of-b-6 c =
+    simp length-set (omega (arith, (c .pre)))
 
 -- src/lib.rt:51:1
 same-length : tie.Need-same-length
@@ -34,7 +43,9 @@ same-length c = search needs
 
 -- src/lib.rt:51:1
 returns : tie.Need-returns
-returns c = ?
+unfolding headTo
+returns c =
+    refl
 
 pub fill-head-spec : {M : Type 1} → statement M
 fill-head-spec =

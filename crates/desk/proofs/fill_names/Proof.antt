@@ -1,3 +1,5 @@
+use lib.ListN.{length-replicate}
+use mathlib.Core.Path.{ap, sym, _∙_}
 use borrow.Author.Needs.{needs}
 use mathlib.Core.Path.{_≡_, refl}
 use Prim.Native.Nat.{_+_, _*_, _-_, _≤_}
@@ -24,7 +26,8 @@ two-names-requires c κs = search needs
 
 -- src/lib.rt:76:5
 loop-holds : tie.Need-loop-holds Inv-loop μ-loop
-loop-holds c = search needs
+loop-holds c =
+    (search needs, (ap length ((c .before .before .pre)), (c .two-names .ensures, (ap length (c .two-names .ensures), (names-none _ _, (c .before .before .pre))))))
 
 -- src/lib.rt:77:20
 array-read-names : tie.Need-array-read-names Inv-loop μ-loop
@@ -44,7 +47,8 @@ loop-less c = search needs
 
 -- src/lib.rt:76:5
 loop-again : tie.Need-loop-again Inv-loop μ-loop
-loop-again c = search needs
+loop-again c =
+    (search needs, (simp length-set (c .before .loop .inv .1 .0), (c .before .loop .inv .1 .1 .0, (c .before .loop .inv .1 .1 .1 .0, (rw (names-step, ← c .before .loop .inv .1 .1 .1 .1 .0, ← c .before .loop .inv .1 .1 .0), c .before .loop .inv .1 .1 .1 .1 .1)))))
 
 -- src/lib.rt:71:1
 same-length : tie.Need-same-length Inv-loop μ-loop
@@ -52,7 +56,8 @@ same-length c = search needs
 
 -- src/lib.rt:71:1
 returns : tie.Need-returns Inv-loop μ-loop
-returns c = search needs
+returns c =
+    let e : c .before .loop .i ≡ 640 = omega (arith, c .before .loop .inv .0, c .loop-test .left) in c .before .loop .inv .1 .1 .1 .1 .0 ∙ rw (e, c .before .loop .inv .1 .1 .1 .1 .1) names-filled
 
 pub fill-names-spec : {M : Type 1} → statement M
 fill-names-spec =

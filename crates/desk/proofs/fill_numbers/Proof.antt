@@ -1,3 +1,7 @@
+use native.Mathlib.Omega.{arith}
+use mathlib.Core.Path.{_≡_, ap}
+use lib.ListN.{length}
+use Rattle.desk.proofs.Filled.{numbers-filled}
 use borrow.Author.Needs.{needs}
 use Rattle.desk.proofs.fill_numbers.Statement.{statement}
 use Rattle.desk.proofs.fill_numbers.Tie as tie
@@ -10,19 +14,23 @@ use Rattle.desk.proofs.fill_stocks.Reads as fill-stocks-reads
 
 -- src/lib.rt:79:5
 fill-head-requires : tie.Need-fill-head-requires
-fill-head-requires c κs = ?
+fill-head-requires c κs =
+    let e : length (c .before .args .b .now) ≡ 3479 = ap length ((c .before .pre)) in omega (arith, e)
 
 -- src/lib.rt:80:5
 fill-districts-requires : tie.Need-fill-districts-requires
-fill-districts-requires c κs = ?
+fill-districts-requires c κs =
+    let e : length (c .before .before .before .before .args .b .now) ≡ 3479 = ap length ((c .before .before .before .before .pre)) in omega (arith, e, c .before .before .fill-head .kept .0)
 
 -- src/lib.rt:81:5
 fill-prices-requires : tie.Need-fill-prices-requires
-fill-prices-requires c κs = ?
+fill-prices-requires c κs =
+    let e : length (c .before .before .before .before .before .before .before .args .b .now) ≡ 3479 = ap length ((c .before .before .before .before .before .before .before .pre)) in omega (arith, e, c .before .before .before .before .before .fill-head .kept .0, c .before .before .fill-districts .kept .0)
 
 -- src/lib.rt:82:5
 fill-stocks-requires : tie.Need-fill-stocks-requires
-fill-stocks-requires c κs = ?
+fill-stocks-requires c κs =
+    let e : length (c .before .before .before .before .before .before .before .before .before .before .args .b .now) ≡ 3479 = ap length ((c .before .before .before .before .before .before .before .before .before .before .pre)) in omega (arith, e, c .before .before .before .before .before .before .before .before .fill-head .kept .0, c .before .before .before .before .before .fill-districts .kept .0, c .before .before .fill-prices .kept .0)
 
 -- src/lib.rt:75:1
 same-length : tie.Need-same-length
@@ -30,7 +38,8 @@ same-length c = search needs
 
 -- src/lib.rt:75:1
 returns : tie.Need-returns
-returns c = ?
+returns c =
+    rw (c .before .fill-stocks .ensures, c .before .before .before .before .fill-prices .ensures, c .before .before .before .before .before .before .before .fill-districts .ensures, c .before .before .before .before .before .before .before .before .before .before .fill-head .ensures, (c .before .before .before .before .before .before .before .before .before .before .before .before .pre)) numbers-filled
 
 pub fill-numbers-spec : {M : Type 1} → statement M
 fill-numbers-spec =

@@ -1,3 +1,7 @@
+use native.Mathlib.Omega.{arith}
+use mathlib.Core.Path.{refl}
+use lib.ListN.{length-set}
+use Rattle.desk.specs.Filling.{pricesTo}
 use borrow.Author.Needs.{needs}
 use Rattle.desk.proofs.fill_prices.Statement.{statement}
 use Rattle.desk.proofs.fill_prices.Tie as tie
@@ -10,15 +14,18 @@ slice-set-of-b c = search needs
 
 -- src/lib.rt:69:5
 slice-set-of-b-2 : tie.Need-slice-set-of-b-2
-slice-set-of-b-2 c = ?
+slice-set-of-b-2 c =
+    simp length-set (omega (arith, (c .pre)))
 
 -- src/lib.rt:70:5
 slice-set-of-b-3 : tie.Need-slice-set-of-b-3
-slice-set-of-b-3 c = ?
+slice-set-of-b-3 c =
+    simp length-set (omega (arith, (c .pre)))
 
 -- src/lib.rt:71:5
 slice-set-of-b-4 : tie.Need-slice-set-of-b-4
-slice-set-of-b-4 c = ?
+slice-set-of-b-4 c =
+    simp length-set (omega (arith, (c .pre)))
 
 -- src/lib.rt:64:1
 same-length : tie.Need-same-length
@@ -26,7 +33,9 @@ same-length c = search needs
 
 -- src/lib.rt:64:1
 returns : tie.Need-returns
-returns c = ?
+unfolding pricesTo
+returns c =
+    refl
 
 pub fill-prices-spec : {M : Type 1} → statement M
 fill-prices-spec =

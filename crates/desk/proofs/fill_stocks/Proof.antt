@@ -18,7 +18,8 @@ abbrev μ-loop : tie.MeasureT-loop
 
 -- src/lib.rt:41:5
 loop-holds : tie.Need-loop-holds Inv-loop μ-loop
-loop-holds c = search needs
+loop-holds c =
+    (search needs, (search needs, stocks-none _))
 
 -- src/lib.rt:42:17
 mul-b : tie.Need-mul-b Inv-loop μ-loop
@@ -46,7 +47,8 @@ loop-less c = search needs
 
 -- src/lib.rt:41:5
 loop-again : tie.Need-loop-again Inv-loop μ-loop
-loop-again c = search needs
+loop-again c =
+    (search needs, (simp length-set (c .before .loop .inv .1 .0), rw (stocks-step, ← c .before .loop .inv .1 .1)))
 
 -- src/lib.rt:36:1
 same-length : tie.Need-same-length Inv-loop μ-loop
@@ -54,7 +56,8 @@ same-length c = search needs
 
 -- src/lib.rt:36:1
 returns : tie.Need-returns Inv-loop μ-loop
-returns c = search needs
+returns c =
+    at-end (λ k. stocksTo k (c .before .before .args .b .now)) (c .before .loop .inv .0) (c .loop-test .left) (c .before .loop .inv .1 .1)
 
 pub fill-stocks-spec : {M : Type 1} → statement M
 fill-stocks-spec =
