@@ -1,5 +1,6 @@
 //! Random lists for comparing engines: replay texts, the same for the same seed.
 
+pub mod book_lines;
 pub mod books;
 pub mod random;
 pub mod requests;
