@@ -45,7 +45,7 @@ put-digits-requires c κs =
 -- src/lib.rt:64:9
 same-length : tie.Need-same-length
 same-length c =
-    c .before .before .put-digits .kept .0 ∙ length-set (set (c .before .before .before .before .before .before .before .args .line .now) (c .before .before .before .before .before .before .before .args .at) 9) (c .before .before .before .before .before .before .before .args .at + 1) 45 ∙ length-set (c .before .before .before .before .before .before .before .args .line .now) (c .before .before .before .before .before .before .before .args .at) 9
+    c .before .before .put-digits .kept .0 ∙ length-set (set (c .before .before .before .before .before .before .before .args .line .now) (c .before .before .before .before .before .before .before .args .at) 9) (c .before .before .before .before .before .before .before .args .at + 1) _ ∙ length-set (c .before .before .before .before .before .before .before .args .line .now) (c .before .before .before .before .before .before .before .args .at) 9
 
 -- src/lib.rt:64:9
 returns : tie.Need-returns
