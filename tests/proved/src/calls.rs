@@ -85,7 +85,7 @@ extern "C" {
 pub struct ProvedEngine;
 
 /// The outcome that the first two figures say.
-fn outcome<F>(out: &[u64], figures: F) -> Outcome<F> {
+pub(crate) fn outcome<F>(out: &[u64], figures: F) -> Outcome<F> {
     match out[0] {
         0 => Outcome::Committed(figures),
         number => Outcome::Refused(Refusal { number, detail: out[1] }),
@@ -93,7 +93,7 @@ fn outcome<F>(out: &[u64], figures: F) -> Outcome<F> {
 }
 
 /// Who as the calls take it: whether by name, the number, the name.
-fn who(who: &Who) -> (bool, u64, &[u8]) {
+pub(crate) fn who(who: &Who) -> (bool, u64, &[u8]) {
     match who {
         Who::Number(number) => (false, *number, &[]),
         Who::LastName(name) => (true, 0, name),
@@ -242,10 +242,10 @@ impl Engine for ProvedEngine {
     }
 
     fn read(&mut self, line: &[u8]) -> Outcome<Request> {
-        second::read_line(line)
+        crate::lines::read(line)
     }
 
     fn write(&mut self, request: &Request, buffer: &mut [u8]) -> Outcome<u64> {
-        second::write_line(request, buffer)
+        crate::lines::write(request, buffer)
     }
 }
