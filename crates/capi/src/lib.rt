@@ -11,9 +11,10 @@ ghost use Rattle.model.specs.StockLevel.{stockLevelAnswer};
 ghost use Prim.Native.Nat.{_+_, _≤_};
 ghost use lib.ListN.{length, getD, take};
 ghost use Rattle.capi.specs.Flat.{bareOut, oneOut, twoOut, balanceOut, statusOut, partIn, selectionOf, newOrderOf, paymentOf, deliveryOf, statusOf, stockLevelOf};
-ghost use Rattle.model.specs.Request.{linesOf};
+ghost use Rattle.new_order.specs.Gathering.{linesHeld};
 use model::Delivery;
 use model::DeliveryOutcome;
+use model::Line;
 use model::NewOrder;
 use model::NewOrderOutcome;
 use model::OpeningOutcome;
@@ -24,6 +25,7 @@ use model::Selection;
 use model::StatusOutcome;
 use model::StockLevel;
 use model::StockLevelOutcome;
+use new_order::Gathered;
 
 // Who: by the last name that is lent beside, or by the number.
 pub fn selection(named: bool, number: u64) -> Selection
@@ -65,7 +67,31 @@ pub fn new_order_out(o: NewOrderOutcome) -> [u64; 4]
     }
 }
 
-// New-Order; line i is entry i of items, supplies and quantities, and there are as many as the shortest has entries.
+// New-Order, its lines by value.
+pub fn new_order_flat(
+    nums: &mut [i64],
+    names: &[u8],
+    warehouse: u64,
+    district: u64,
+    customer: u64,
+    date: u64,
+    g: Gathered,
+    out: &mut [u64; 4],
+)
+    ensures { λ _. ⌜ (now (out .exit) ≡ twoOut (newOrderAnswer (now (nums .entry)) (now (names .entry)) (newOrderOf warehouse district customer date) (linesHeld g))) × (now (nums .exit) ≡ newOrderBook (now (nums .entry)) (now (names .entry)) (newOrderOf warehouse district customer date) (linesHeld g)) ⌝ }
+{
+    let q = NewOrder {
+        warehouse,
+        district,
+        customer,
+        date,
+    };
+    let a = new_order::new_order_of(nums, names, q, g);
+    let o = a.outcome;
+    *out = new_order_out(o);
+}
+
+// New-Order; the lines are a lent slice of records of any length.
 #[no_mangle]
 pub extern "C" fn book_new_order(
     nums: &mut [i64],
@@ -74,22 +100,13 @@ pub extern "C" fn book_new_order(
     district: u64,
     customer: u64,
     date: u64,
-    items: &[u64],
-    supplies: &[u64],
-    quantities: &[u64],
+    lines: &[Line],
     out: &mut [u64; 4],
 )
-    ensures { λ _. ⌜ (now (out .exit) ≡ twoOut (newOrderAnswer (now (nums .entry)) (now (names .entry)) (newOrderOf warehouse district customer date) (linesOf (now (items .entry)) (now (supplies .entry)) (now (quantities .entry))))) × (now (nums .exit) ≡ newOrderBook (now (nums .entry)) (now (names .entry)) (newOrderOf warehouse district customer date) (linesOf (now (items .entry)) (now (supplies .entry)) (now (quantities .entry)))) ⌝ }
+    ensures { λ _. ⌜ (now (out .exit) ≡ twoOut (newOrderAnswer (now (nums .entry)) (now (names .entry)) (newOrderOf warehouse district customer date) (now (lines .entry)))) × (now (nums .exit) ≡ newOrderBook (now (nums .entry)) (now (names .entry)) (newOrderOf warehouse district customer date) (now (lines .entry))) ⌝ }
 {
-    let q = NewOrder {
-        warehouse,
-        district,
-        customer,
-        date,
-    };
-    let a = new_order::new_order(nums, names, q, items, supplies, quantities);
-    let o = a.outcome;
-    *out = new_order_out(o);
+    let g = new_order::gather(lines);
+    new_order_flat(nums, names, warehouse, district, customer, date, g, out)
 }
 
 // Payment's answer: number, detail, customer.
