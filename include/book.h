@@ -12,10 +12,16 @@
 /* Opening. out: number, detail. */
 void book_opening(const int64_t *nums, size_t nums_len, const uint8_t *names, size_t names_len, uint64_t out[2]);
 
-/* New-Order; line i is items[i], supplies[i], quantities[i], and there are as many lines as the shortest has. out: number, detail, order, total. */
+/* One line of a New-Order: the item, the supplying warehouse, the quantity. */
+struct book_line {
+    uint64_t item;
+    uint64_t supply;
+    uint64_t quantity;
+};
+
+/* New-Order, of any number of lines. out: number, detail, order, total. */
 void book_new_order(int64_t *nums, size_t nums_len, const uint8_t *names, size_t names_len, uint64_t warehouse, uint64_t district, uint64_t customer,
-                    uint64_t date, const uint64_t *items, size_t items_len, const uint64_t *supplies, size_t supplies_len,
-                    const uint64_t *quantities, size_t quantities_len, uint64_t out[4]);
+                    uint64_t date, const struct book_line *lines, size_t lines_len, uint64_t out[4]);
 
 /* Payment, by customer number where named is false, else by the last name. out: number, detail, customer; balance[0]: the new balance. */
 void book_payment(int64_t *nums, size_t nums_len, const uint8_t *names, size_t names_len, uint64_t warehouse, uint64_t district,

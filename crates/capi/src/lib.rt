@@ -15,10 +15,12 @@ ghost use Rattle.capi.specs.Flat.{bareOut, oneOut, twoOut, balanceOut, s
 ghost use Rattle.model.specs.Request.{requestOf, newOrder, payment, delivery, orderStatus, stockLevel, linesOf};
 ghost use Rattle.model.specs.RequestLine.{readLine, stored, writeSays, writeAnswer, writeBuffer};
 ghost use Rattle.model.specs.declared.Form.the-variants as Form;
+ghost use Rattle.new_order.specs.Gathering.{linesHeld};
 ghost use Rattle.capi.specs.FlatLines.{namedOut, numberOut, formOut, readOut};
 use model::Delivery;
 use model::DeliveryOutcome;
 use model::Form;
+use model::Line;
 use model::NewOrder;
 use model::NewOrderOutcome;
 use model::OpeningOutcome;
@@ -31,6 +33,7 @@ use model::StatusOutcome;
 use model::StockLevel;
 use model::StockLevelOutcome;
 use model::WriteOutcome;
+use new_order::Gathered;
 
 // Who: by the last name that is lent beside, or by the number.
 pub fn selection(named: bool, number: u64) -> Selection
@@ -72,7 +75,31 @@ pub fn new_order_out(o: NewOrderOutcome) -> [u64; 4]
     }
 }
 
-// New-Order; line i is entry i of items, supplies and quantities, and there are as many as the shortest has entries.
+// New-Order, its lines by value.
+pub fn new_order_flat(
+    nums: &mut [i64],
+    names: &[u8],
+    warehouse: u64,
+    district: u64,
+    customer: u64,
+    date: u64,
+    g: Gathered,
+    out: &mut [u64; 4],
+)
+    ensures { λ _. ⌜ (now (out .exit) ≡ twoOut (newOrderAnswer (now (nums .entry)) (now (names .entry)) (newOrderOf warehouse district customer date) (linesHeld g))) × (now (nums .exit) ≡ newOrderBook (now (nums .entry)) (now (names .entry)) (newOrderOf warehouse district customer date) (linesHeld g)) ⌝ }
+{
+    let q = NewOrder {
+        warehouse,
+        district,
+        customer,
+        date,
+    };
+    let a = new_order::new_order_of(nums, names, q, g);
+    let o = a.outcome;
+    *out = new_order_out(o);
+}
+
+// New-Order; the lines are a lent slice of records of any length.
 #[no_mangle]
 pub extern "C" fn book_new_order(
     nums: &mut [i64],
@@ -81,22 +108,13 @@ pub extern "C" fn book_new_order(
     district: u64,
     customer: u64,
     date: u64,
-    items: &[u64],
-    supplies: &[u64],
-    quantities: &[u64],
+    lines: &[Line],
     out: &mut [u64; 4],
 )
-    ensures { λ _. ⌜ (now (out .exit) ≡ twoOut (newOrderAnswer (now (nums .entry)) (now (names .entry)) (newOrderOf warehouse district customer date) (linesOf (now (items .entry)) (now (supplies .entry)) (now (quantities .entry))))) × (now (nums .exit) ≡ newOrderBook (now (nums .entry)) (now (names .entry)) (newOrderOf warehouse district customer date) (linesOf (now (items .entry)) (now (supplies .entry)) (now (quantities .entry)))) ⌝ }
+    ensures { λ _. ⌜ (now (out .exit) ≡ twoOut (newOrderAnswer (now (nums .entry)) (now (names .entry)) (newOrderOf warehouse district customer date) (now (lines .entry)))) × (now (nums .exit) ≡ newOrderBook (now (nums .entry)) (now (names .entry)) (newOrderOf warehouse district customer date) (now (lines .entry))) ⌝ }
 {
-    let q = NewOrder {
-        warehouse,
-        district,
-        customer,
-        date,
-    };
-    let a = new_order::new_order(nums, names, q, items, supplies, quantities);
-    let o = a.outcome;
-    *out = new_order_out(o);
+    let g = new_order::gather(lines);
+    new_order_flat(nums, names, warehouse, district, customer, date, g, out)
 }
 
 // Payment's answer: number, detail, customer.

@@ -7,6 +7,14 @@ use second::{
     StockLevel, StockLevelFigures, Who,
 };
 
+/// A line as the call takes it.
+#[repr(C)]
+struct BookLine {
+    item: u64,
+    supply: u64,
+    quantity: u64,
+}
+
 extern "C" {
     fn book_opening(nums: *const i64, nums_len: usize, names: *const u8, names_len: usize, out: *mut u64);
     fn book_new_order(
@@ -18,12 +26,8 @@ extern "C" {
         district: u64,
         customer: u64,
         date: u64,
-        items: *const u64,
-        items_len: usize,
-        supplies: *const u64,
-        supplies_len: usize,
-        quantities: *const u64,
-        quantities_len: usize,
+        lines: *const BookLine,
+        lines_len: usize,
         out: *mut u64,
     );
     fn book_payment(
@@ -100,8 +104,8 @@ pub(crate) fn who(who: &Who) -> (bool, u64, &[u8]) {
     }
 }
 
-fn column(lines: &[Line], field: impl Fn(&Line) -> u64) -> Vec<u64> {
-    lines.iter().map(field).collect()
+fn book_line(line: &Line) -> BookLine {
+    BookLine { item: line.item, supply: line.supply_warehouse, quantity: line.quantity }
 }
 
 impl Engine for ProvedEngine {
@@ -115,9 +119,7 @@ impl Engine for ProvedEngine {
     }
 
     fn new_order(&mut self, lent: &mut Lent, request: &NewOrder) -> Outcome<NewOrderFigures> {
-        let items = column(&request.lines, |line| line.item);
-        let supplies = column(&request.lines, |line| line.supply_warehouse);
-        let quantities = column(&request.lines, |line| line.quantity);
+        let lines: Vec<BookLine> = request.lines.iter().map(book_line).collect();
         let mut out = [0; 4];
         unsafe {
             book_new_order(
@@ -129,12 +131,8 @@ impl Engine for ProvedEngine {
                 request.district,
                 request.customer,
                 request.date,
-                items.as_ptr(),
-                items.len(),
-                supplies.as_ptr(),
-                supplies.len(),
-                quantities.as_ptr(),
-                quantities.len(),
+                lines.as_ptr(),
+                lines.len(),
                 out.as_mut_ptr(),
             );
         }
