@@ -44,6 +44,12 @@ pub struct Shown {
     pub part: Part,
 }
 
+// A status in one answer: the outcome, and the shown lines as that part of the lent book.
+pub struct StatusAnswer<'a> {
+    pub outcome: StatusOutcome,
+    pub lines: &'a [i64],
+}
+
 // The warehouse is one of the book.
 fn warehouse_ok(d: Dims, q: OrderStatus) -> bool
     ensures { λ r. ⌜ r ≡ every (leb 1 (q .warehouse) ∷ leb (q .warehouse) (d .warehouses) ∷ []) ⌝ }
@@ -243,4 +249,20 @@ fn lines_in<'a>(b: &'a [i64], part: Part) -> &'a [i64]
     let from = start as usize;
     let to = end as usize;
     &b[from..to]
+}
+
+// Order-Status, by customer number or by last name; the lines are shown as that part of the lent book, an empty one where there is no order to show.
+pub fn order_status<'a>(
+    b: &'a [i64],
+    names: &[u8],
+    q: OrderStatus,
+    who: Selection,
+    name: &[u8],
+) -> StatusAnswer<'a>
+    ensures { λ r. ⌜ (statusSays (r .outcome) ≡ statusAnswer (now (b .entry)) (now (names .entry)) q (whoOf who (now (name .entry)))) × (now (r .lines) ≡ statusLines (now (b .entry)) (now (names .entry)) q (whoOf who (now (name .entry)))) ⌝ }
+{
+    let s = status_shown(b, names, q, who, name);
+    let lines = lines_in(b, s.part);
+    let outcome = s.outcome;
+    StatusAnswer { outcome, lines }
 }
