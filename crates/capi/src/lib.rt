@@ -246,8 +246,9 @@ pub extern "C" fn book_order_status(
         district,
     };
     let who = selection(named, number);
-    let o = order_status::status_outcome(nums, names, q, who, name);
-    let part = order_status::status_part(nums, names, q, who, name);
+    let s = order_status::status_shown(nums, names, q, who, name);
+    let o = s.outcome;
+    let part = s.part;
     *out = status_out(o, part.from, part.count);
     *balance = status_balance(o);
 }

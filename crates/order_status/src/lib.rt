@@ -1,10 +1,11 @@
 ghost use mathlib.Core.Path.{_≡_};
+ghost use mathlib.Core.Logic.{_≢_};
 ghost use mathlib.Core.Bool.{true};
 ghost use mathlib.Core.List.{[], _∷_};
 ghost use Prim.Native.Nat.{_+_, _*_, _≤_};
 ghost use lib.Dec.{leb};
 ghost use lib.IntN.{pos};
-ghost use lib.ListN.{length, take, drop};
+ghost use lib.ListN.{length};
 ghost use Rattle.model.specs.Tests.{every, fault};
 ghost use Rattle.model.specs.Layout.{shapes};
 ghost use Rattle.model.specs.Store.{get, num};
@@ -15,6 +16,7 @@ ghost use Rattle.model.specs.Lists.{largest};
 ghost use Rattle.model.specs.Used.{districtUsed};
 ghost use Rattle.model.specs.Answer.{statusSays};
 ghost use Rattle.model.specs.OrderStatus.{statusAsked, statusUsed, statusFault, lastOrder, statusCustomer, statusOrder, orderShown, linesShown, statusAnswer, statusLines};
+ghost use Rattle.model.specs.Request.{partOf};
 ghost use Rattle.model.specs.Claim.{R};
 ghost use Rattle.model.proofs.Fields.{Shaped};
 ghost use Rattle.model.proofs.StatusFacts.{StatusAsked};
@@ -34,6 +36,18 @@ pub struct Seen {
     pub refusal: Refusal,
     pub customer: u64,
     pub order: u64,
+}
+
+// What a status answers: the outcome, and the part of the book that holds the shown lines.
+pub struct Shown {
+    pub outcome: StatusOutcome,
+    pub part: Part,
+}
+
+// A status in one answer: the outcome, and the shown lines as that part of the lent book.
+pub struct StatusAnswer<'a> {
+    pub outcome: StatusOutcome,
+    pub lines: &'a [i64],
 }
 
 // The warehouse is one of the book.
@@ -192,11 +206,14 @@ fn figures_of(b: &[i64], d: Dims, q: OrderStatus, c: u64, o: u64) -> StatusFigur
     }
 }
 
-// Where the lines of an order start in the book, and how many numbers they are.
+// Where the lines of an order start in the book, and how many numbers they are; no numbers for order 0.
 fn part_of(b: &[i64], d: Dims, w: u64, k: u64, o: u64) -> Part
-    requires { ⌜ Booked d (now b) × (R (d .warehouses) w × (R 10 k × (R (d .orders) o × R 15 (num (shapes d) (now b) (lineCount d w k o))))) ⌝ }
-    ensures { λ r. ⌜ (r .from + r .count ≤ length (now (b .entry))) × (take (r .count) (drop (r .from) (now (b .entry))) ≡ linesShown d (now (b .entry)) w k o) ⌝ }
+    requires { ⌜ Booked d (now b) × (R (d .warehouses) w × (R 10 k × ((o ≤ d .orders) × (o ≢ 0 → R 15 (num (shapes d) (now b) (lineCount d w k o)))))) ⌝ }
+    ensures { λ r. ⌜ (r .from + r .count ≤ length (now (b .entry))) × (partOf r (now (b .entry)) ≡ linesShown d (now (b .entry)) w k o) ⌝ }
 {
+    if o == 0 {
+        return Part { from: 0, count: 0 };
+    }
     let n = rows::line_count(b, d, w, k, o);
     let p = layout::order_at(d, w, k, o);
     let from = p + 6;
@@ -204,52 +221,48 @@ fn part_of(b: &[i64], d: Dims, w: u64, k: u64, o: u64) -> Part
     Part { from, count }
 }
 
-// Order-Status, by customer number or by last name: the figures.
-pub fn status_outcome(
-    b: &[i64],
-    names: &[u8],
-    q: OrderStatus,
-    who: Selection,
-    name: &[u8],
-) -> StatusOutcome
-    ensures { λ r. ⌜ statusSays r ≡ statusAnswer (now (b .entry)) (now (names .entry)) q (whoOf who (now (name .entry))) ⌝ }
+// Order-Status, by customer number or by last name: the outcome, and where the shown lines are in the book; the district's orders are scanned once.
+pub fn status_shown(b: &[i64], names: &[u8], q: OrderStatus, who: Selection, name: &[u8]) -> Shown
+    ensures { λ r. ⌜ (statusSays (r .outcome) ≡ statusAnswer (now (b .entry)) (now (names .entry)) q (whoOf who (now (name .entry)))) × ((r .part .from + r .part .count ≤ length (now (b .entry))) × (partOf (r .part) (now (b .entry)) ≡ statusLines (now (b .entry)) (now (names .entry)) q (whoOf who (now (name .entry))))) ⌝ }
 {
     let seen = seen_of(b, names, q, who, name);
     let refusal = seen.refusal;
     if refusal.number == 0 {
         let d = layout::dims_of(b);
         let figures = figures_of(b, d, q, seen.customer, seen.order);
-        return StatusOutcome::Committed(figures);
+        let outcome = StatusOutcome::Committed(figures);
+        let part = part_of(b, d, q.warehouse, q.district, seen.order);
+        return Shown { outcome, part };
     }
-    StatusOutcome::Refused(refusal)
+    let outcome = StatusOutcome::Refused(refusal);
+    let part = Part { from: 0, count: 0 };
+    Shown { outcome, part }
 }
 
-// Order-Status: where the lines of the order are in the book; no numbers where there is no order to show.
-pub fn status_part(b: &[i64], names: &[u8], q: OrderStatus, who: Selection, name: &[u8]) -> Part
-    ensures { λ r. ⌜ (r .from + r .count ≤ length (now (b .entry))) × (take (r .count) (drop (r .from) (now (b .entry))) ≡ statusLines (now (b .entry)) (now (names .entry)) q (whoOf who (now (name .entry)))) ⌝ }
+// The part of the lent book that a status shows.
+fn lines_in<'a>(b: &'a [i64], part: Part) -> &'a [i64]
+    requires { ⌜ part .from + part .count ≤ length (now b) ⌝ }
+    ensures { λ r. ⌜ now r ≡ partOf part (now (b .entry)) ⌝ }
 {
-    let seen = seen_of(b, names, q, who, name);
-    if seen.order == 0 {
-        return Part { from: 0, count: 0 };
-    }
-    let d = layout::dims_of(b);
-    part_of(b, d, q.warehouse, q.district, seen.order)
-}
-
-// Order-Status: the lines of the order, as that part of the lent book; an empty part where there is no order to show.
-pub fn status_lines<'a>(
-    b: &'a [i64],
-    names: &[u8],
-    q: OrderStatus,
-    who: Selection,
-    name: &[u8],
-) -> &'a [i64]
-    ensures { λ r. ⌜ now r ≡ statusLines (now (b .entry)) (now (names .entry)) q (whoOf who (now (name .entry))) ⌝ }
-{
-    let part = status_part(b, names, q, who, name);
     let end = part.from + part.count;
     let start = part.from;
     let from = start as usize;
     let to = end as usize;
     &b[from..to]
+}
+
+// Order-Status, by customer number or by last name; the lines are shown as that part of the lent book, an empty one where there is no order to show.
+pub fn order_status<'a>(
+    b: &'a [i64],
+    names: &[u8],
+    q: OrderStatus,
+    who: Selection,
+    name: &[u8],
+) -> StatusAnswer<'a>
+    ensures { λ r. ⌜ (statusSays (r .outcome) ≡ statusAnswer (now (b .entry)) (now (names .entry)) q (whoOf who (now (name .entry)))) × (now (r .lines) ≡ statusLines (now (b .entry)) (now (names .entry)) q (whoOf who (now (name .entry)))) ⌝ }
+{
+    let s = status_shown(b, names, q, who, name);
+    let lines = lines_in(b, s.part);
+    let outcome = s.outcome;
+    StatusAnswer { outcome, lines }
 }
