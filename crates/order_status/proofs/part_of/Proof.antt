@@ -1,4 +1,3 @@
-use Rattle.model.specs.Claim.{R}
 use Rattle.order_status.proofs.Stages.{lines-none, lines-some}
 use native.Mathlib.Omega.{arith}
 use borrow.Author.Needs.{needs}
