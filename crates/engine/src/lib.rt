@@ -1,0 +1,128 @@
+// One request of any kind, carried out on the book.
+ghost use mathlib.Core.Path.{_≡_};
+ghost use Rattle.model.specs.Names.{whoOf};
+ghost use Rattle.model.specs.Request.{requestOf, linesOf, newOrder, payment, delivery, orderStatus, stockLevel};
+ghost use Rattle.engine.specs.Carried.{Carried};
+use model::Delivery;
+use model::Form;
+use model::NewOrder;
+use model::OrderStatus;
+use model::Part;
+use model::Payment;
+use model::RequestAnswer;
+use model::RequestOutcome;
+use model::Selection;
+use model::StockLevel;
+
+// New-Order, its lines as three slices.
+fn new_order(
+    b: &mut [i64],
+    names: &[u8],
+    q: NewOrder,
+    items: &[u64],
+    supplies: &[u64],
+    quantities: &[u64],
+) -> RequestAnswer
+    ensures { λ r. ⌜ Carried (now (b .entry)) (now (names .entry)) (newOrder q (linesOf (now (items .entry)) (now (supplies .entry)) (now (quantities .entry)))) r (now (b .exit)) ⌝ }
+{
+    let a = new_order::new_order(b, names, q, items, supplies, quantities);
+    let o = a.outcome;
+    let outcome = RequestOutcome::NewOrder(o);
+    let orders = [0u64; 10];
+    let part = Part { from: 0, count: 0 };
+    RequestAnswer {
+        outcome,
+        orders,
+        part,
+    }
+}
+
+// Payment.
+fn payment(b: &mut [i64], names: &[u8], q: Payment, who: Selection, name: &[u8]) -> RequestAnswer
+    ensures { λ r. ⌜ Carried (now (b .entry)) (now (names .entry)) (payment q (whoOf who (now (name .entry)))) r (now (b .exit)) ⌝ }
+{
+    let a = payment::payment(b, names, q, who, name);
+    let o = a.outcome;
+    let outcome = RequestOutcome::Payment(o);
+    let orders = [0u64; 10];
+    let part = Part { from: 0, count: 0 };
+    RequestAnswer {
+        outcome,
+        orders,
+        part,
+    }
+}
+
+// Delivery.
+fn delivery(b: &mut [i64], names: &[u8], q: Delivery) -> RequestAnswer
+    ensures { λ r. ⌜ Carried (now (b .entry)) (now (names .entry)) (delivery q) r (now (b .exit)) ⌝ }
+{
+    let a = delivery::delivery(b, names, q);
+    let o = a.outcome;
+    let outcome = RequestOutcome::Delivery(o);
+    let orders = a.orders;
+    let part = Part { from: 0, count: 0 };
+    RequestAnswer {
+        outcome,
+        orders,
+        part,
+    }
+}
+
+// Order-Status.
+fn order_status(
+    b: &[i64],
+    names: &[u8],
+    q: OrderStatus,
+    who: Selection,
+    name: &[u8],
+) -> RequestAnswer
+    ensures { λ r. ⌜ Carried (now (b .entry)) (now (names .entry)) (orderStatus q (whoOf who (now (name .entry)))) r (now (b .entry)) ⌝ }
+{
+    let o = order_status::status_outcome(b, names, q, who, name);
+    let part = order_status::status_part(b, names, q, who, name);
+    let outcome = RequestOutcome::OrderStatus(o);
+    let orders = [0u64; 10];
+    RequestAnswer {
+        outcome,
+        orders,
+        part,
+    }
+}
+
+// Stock-Level.
+fn stock_level(b: &[i64], names: &[u8], q: StockLevel) -> RequestAnswer
+    ensures { λ r. ⌜ Carried (now (b .entry)) (now (names .entry)) (stockLevel q) r (now (b .entry)) ⌝ }
+{
+    let a = stock_level::stock_level(b, names, q);
+    let o = a.outcome;
+    let outcome = RequestOutcome::StockLevel(o);
+    let orders = [0u64; 10];
+    let part = Part { from: 0, count: 0 };
+    RequestAnswer {
+        outcome,
+        orders,
+        part,
+    }
+}
+
+// A request of any kind: its form, and beside it the lines and the last name.
+pub fn carry_out(
+    b: &mut [i64],
+    names: &[u8],
+    form: Form,
+    items: &[u64],
+    supplies: &[u64],
+    quantities: &[u64],
+    name: &[u8],
+) -> RequestAnswer
+    ensures { λ r. ⌜ Carried (now (b .entry)) (now (names .entry)) (requestOf form (linesOf (now (items .entry)) (now (supplies .entry)) (now (quantities .entry))) (now (name .entry))) r (now (b .exit)) ⌝ }
+{
+    match form {
+        Form::NewOrder(q) => new_order(b, names, q, items, supplies, quantities),
+        Form::Payment(q, who) => payment(b, names, q, who, name),
+        Form::Delivery(q) => delivery(b, names, q),
+        Form::OrderStatus(q, who) => order_status(b, names, q, who, name),
+        Form::StockLevel(q) => stock_level(b, names, q),
+    }
+}
