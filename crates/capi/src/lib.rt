@@ -475,7 +475,7 @@ pub extern "C" fn book_write_new_order(
         date,
     });
     let none = [0u8; 1];
-    let a = lines::write_line(buffer, form, items, supplies, quantities, &none[0..0]);
+    let a = writing::write_line(buffer, form, items, supplies, quantities, &none[0..0]);
     let o = a.outcome;
     *out = write_out(o);
 }
@@ -486,7 +486,7 @@ fn write_bare(buffer: &mut [u8], form: Form, name: &[u8]) -> [u64; 3]
 {
     let none = [0u64; 1];
     let empty = &none[0..0];
-    let a = lines::write_line(buffer, form, empty, empty, empty, name);
+    let a = writing::write_line(buffer, form, empty, empty, empty, name);
     let o = a.outcome;
     write_out(o)
 }

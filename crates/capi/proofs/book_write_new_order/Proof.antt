@@ -6,7 +6,7 @@ use Rattle.capi.proofs.book_write_new_order.Tie as tie
 use Rattle.capi.proofs.book_write_new_order.Reads as reads
 use Rattle.capi.proofs.book_write_new_order.Lts as lts
 use Rattle.capi.proofs.write_out.Reads as write-out-reads
-use Rattle.lines.proofs.write_line.Reads as write-line-reads
+use Rattle.writing.proofs.write_line.Reads as write-line-reads
 
 -- src/lib.rt:459:74
 sub-write-line : tie.Need-sub-write-line

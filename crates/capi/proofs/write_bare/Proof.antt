@@ -7,7 +7,7 @@ use Rattle.capi.proofs.write_bare.Tie as tie
 use Rattle.capi.proofs.write_bare.Reads as reads
 use Rattle.capi.proofs.write_bare.Lts as lts
 use Rattle.capi.proofs.write_out.Reads as write-out-reads
-use Rattle.lines.proofs.write_line.Reads as write-line-reads
+use Rattle.writing.proofs.write_line.Reads as write-line-reads
 
 -- src/lib.rt:469:17
 sub-empty : tie.Need-sub-empty
