@@ -6,8 +6,8 @@ use std::fmt::Write;
 const LEFT: f64 = 190.0;
 const WIDTH: f64 = 560.0;
 const TOP: f64 = 92.0;
-const BAR: f64 = 11.0;
-const GROUP: f64 = 50.0;
+const BAR: f64 = 13.0;
+const GROUP: f64 = 54.0;
 
 const STYLE: &str = "<style>
 text { font: 13px system-ui, sans-serif; fill: #1f2328; }
@@ -68,7 +68,7 @@ pub fn draw(title: &str, rows: &[Row]) -> String {
 
 fn put_legend(svg: &mut String) {
     let entries = [("proved", "proved library"), ("sql", "SQLite in memory, used rows unchecked"), ("sum", "plain sum of the used rows")];
-    for ((class, name), x) in entries.into_iter().zip([12.0, 142.0, 412.0]) {
+    for ((class, name), x) in entries.into_iter().zip([12.0, 150.0, 460.0]) {
         let _ = writeln!(svg, "<rect class=\"{class}\" x=\"{x}\" y=\"57\" width=\"12\" height=\"12\"/><text x=\"{}\" y=\"68\">{name}</text>", x + 18.0);
     }
 }

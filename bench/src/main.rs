@@ -6,6 +6,7 @@ mod book;
 mod chart;
 mod check;
 mod contender;
+mod counting;
 mod load;
 mod measure;
 mod requests;
@@ -18,8 +19,6 @@ use book::Size;
 
 const HALF: usize = 1_500;
 const NEARLY: usize = 2_700;
-const ROUNDS: usize = 9;
-const ROUNDS_GROWTH: usize = 5;
 
 fn main() {
     let mut arguments = std::env::args().skip(1);
@@ -29,7 +28,7 @@ fn main() {
     checked();
     let books = compared(if quick { 1 } else { 5 });
     tables::missed(&books);
-    println!("\nOf New-Order's time on the proved library, {:.3} µs are the test wrapper's copies of the lines.", measure::wrapper(&sized(1, HALF)));
+    tables::wrapper(measure::wrapper());
     if quick {
         return;
     }
@@ -62,7 +61,7 @@ fn compared(most: usize) -> Vec<(&'static str, Vec<measure::Row>)> {
     ];
     let chosen = books.into_iter().filter(|&(_, warehouses, _)| warehouses <= most);
     let measured = chosen.map(|(title, warehouses, orders)| {
-        let rows = measure::book(&sized(warehouses, orders), ROUNDS);
+        let rows = measure::book(&sized(warehouses, orders), 1);
         tables::compared(title, &rows);
         (title, rows)
     });
@@ -81,6 +80,6 @@ fn grown() {
         orders: 9_000 / parts,
         histories: 900_000 / parts,
     };
-    let sizes = [10, 3, 1].map(|parts| measure::book(&largest(parts), ROUNDS_GROWTH));
+    let sizes = [10, 3, 1].map(|parts| measure::book(&largest(parts), 2));
     tables::growth(&["A tenth", "A third", "The whole"], &sizes);
 }

@@ -2,12 +2,14 @@
 
 use crate::book::{self, Size};
 use crate::check::Engines;
-use crate::contender::Contender;
-use crate::requests::{Asker, Call, CALLS};
+use crate::counting;
+use crate::contender::{Contender, InBook};
+use crate::requests::{Asker, Call, Timed, CALLS};
 use crate::sums;
+use proved::ProvedEngine;
 use second::layout::Layout;
 use second::replay::{Lent, SecondEngine};
-use second::Request;
+use second::{Line, Request};
 use std::hint::black_box;
 use std::time::Instant;
 
@@ -27,14 +29,14 @@ const CONTENDERS: usize = 4;
 struct Field {
     engines: Engines,
     /// The book that is summed, kept in step with the others.
-    summed: crate::contender::InBook<SecondEngine>,
+    summed: InBook<SecondEngine>,
     layout: Layout,
 }
 
 impl Field {
     fn on(lent: Lent, layout: Layout) -> Field {
         let engines = Engines::on(&lent, &layout);
-        Field { engines, summed: crate::contender::InBook { engine: SecondEngine, lent }, layout }
+        Field { engines, summed: InBook { engine: SecondEngine, lent }, layout }
     }
 
     /// Microseconds a call of one contender, and the digest of its answers.
@@ -63,45 +65,56 @@ impl Field {
             digests[contender] = digest;
         }
         assert!(digests[0] == digests[1] && digests[1] == digests[2], "the engines answered differently");
-        self.summed.batch(requests);
     }
 }
 
-/// One row for each call.
-pub fn book(size: &Size, rounds: usize) -> Vec<Row> {
+/// One row for each call; each has its rounds divided by `fewer`.
+pub fn book(size: &Size, fewer: usize) -> Vec<Row> {
     let mut field = Field::on(book::make(size), size.layout());
     let mut asker = Asker::new(size, 2);
     for request in asker.batch(Call::Mix, 200) {
         field.engines.agree(&request);
         field.summed.answer(&request);
     }
-    let rows = CALLS.map(|(call, name, count)| {
-        let mut best = [f64::MAX; CONTENDERS];
-        for round in 0..rounds {
-            let requests = asker.batch(call, count);
-            field.round(round, &requests, &mut best);
-        }
-        let [proved, second, sql, sum] = best;
-        Row { call, name, proved, second, sql, sum: sums::scans(call).then_some(sum) }
-    });
+    let rows = CALLS.iter().map(|timed| row(&mut field, &mut asker, timed, fewer)).collect();
     let Engines { proved, second, .. } = &field.engines;
     assert!(proved.lent == second.lent && second.lent == field.summed.lent, "the books differ at the end");
-    rows.into()
+    rows
 }
 
-/// Microseconds that the test wrapper's three vectors of a New-Order's lines take.
-pub fn wrapper(size: &Size) -> f64 {
-    let requests = Asker::new(size, 3).batch(Call::NewOrder, 200);
-    let copied = || {
-        let start = Instant::now();
-        for request in &requests {
-            let Request::NewOrder(r) = request else { continue };
-            let items: Vec<u64> = r.lines.iter().map(|line| line.item).collect();
-            let supplies: Vec<u64> = r.lines.iter().map(|line| line.supply_warehouse).collect();
-            let quantities: Vec<u64> = r.lines.iter().map(|line| line.quantity).collect();
-            black_box((items, supplies, quantities));
+fn row(field: &mut Field, asker: &mut Asker, timed: &Timed, fewer: usize) -> Row {
+    let mut best = [f64::MAX; CONTENDERS];
+    for round in 0..timed.rounds / fewer {
+        let requests = asker.batch(timed.call, timed.batch);
+        field.round(round, &requests, &mut best);
+        if timed.call.writes() {
+            field.summed.batch(&requests);
         }
-        start.elapsed().as_secs_f64() * 1e6 / requests.len() as f64
-    };
-    (0..20).map(|_| copied()).fold(f64::MAX, f64::min)
+    }
+    let [proved, second, sql, sum] = best;
+    Row { call: timed.call, name: timed.name, proved, second, sql, sum: sums::scans(timed.call).then_some(sum) }
+}
+
+/// What a New-Order's lines cost before they reach the proved library: allocations of the test wrapper, and the microseconds of three
+/// vectors filled from the lines, which is what it does where it allocates.
+pub fn wrapper() -> (usize, f64) {
+    let size = Size { warehouses: 1, customers: 10, items: 10, order_slots: 10, history_slots: 1, orders: 0, histories: 0 };
+    let requests = Asker::new(&size, 3).batch(Call::NewOrder, 200);
+    let mut proved = InBook { engine: ProvedEngine, lent: book::make(&size) };
+    let before = counting::allocations();
+    proved.batch(&requests[..1]);
+    let allocations = counting::allocations() - before;
+    let best = (0..50).map(|_| copied(&requests)).fold(f64::MAX, f64::min);
+    (allocations, best)
+}
+
+/// Microseconds to copy a New-Order's lines into three vectors.
+fn copied(requests: &[Request]) -> f64 {
+    let start = Instant::now();
+    for request in requests {
+        let Request::NewOrder(r) = request else { continue };
+        let column = |field: fn(&Line) -> u64| -> Vec<u64> { r.lines.iter().map(field).collect() };
+        black_box((column(|line| line.item), column(|line| line.supply_warehouse), column(|line| line.quantity)));
+    }
+    start.elapsed().as_secs_f64() * 1e6 / requests.len() as f64
 }

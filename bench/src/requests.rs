@@ -19,17 +19,35 @@ pub enum Call {
     Mix,
 }
 
-/// Every row of a table with the size of a batch.
-pub const CALLS: [(Call, &str, usize); 8] = [
-    (Call::NewOrder, "New-Order", 200),
-    (Call::PaymentByNumber, "Payment by number", 800),
-    (Call::PaymentByName, "Payment by name", 100),
-    (Call::Delivery, "Delivery", 8),
-    (Call::StatusByNumber, "Order-Status by number", 60),
-    (Call::StatusByName, "Order-Status by name", 60),
-    (Call::StockLevel, "Stock-Level", 40),
-    (Call::Mix, "TPC-C's mix", 200),
+/// A row of a table: the call, its name, the requests of a batch, and how many rounds there are.
+pub struct Timed {
+    pub call: Call,
+    pub name: &'static str,
+    pub batch: usize,
+    pub rounds: usize,
+}
+
+const fn timed(call: Call, name: &'static str, batch: usize, rounds: usize) -> Timed {
+    Timed { call, name, batch, rounds }
+}
+
+/// Every row. A batch is short, so that among its rounds some are undisturbed; New-Orders are as many as a nearly full book has room for.
+pub const CALLS: [Timed; 8] = [
+    timed(Call::NewOrder, "New-Order", 100, 18),
+    timed(Call::PaymentByNumber, "Payment by number", 400, 18),
+    timed(Call::PaymentByName, "Payment by name", 40, 36),
+    timed(Call::Delivery, "Delivery", 2, 60),
+    timed(Call::StatusByNumber, "Order-Status by number", 10, 60),
+    timed(Call::StatusByName, "Order-Status by name", 10, 60),
+    timed(Call::StockLevel, "Stock-Level", 10, 60),
+    timed(Call::Mix, "TPC-C's mix", 100, 18),
 ];
+
+impl Call {
+    pub fn writes(self) -> bool {
+        !matches!(self, Call::StatusByNumber | Call::StatusByName | Call::StockLevel)
+    }
+}
 
 /// Asks about one book; the terminals, one for each district, take turns.
 pub struct Asker {
