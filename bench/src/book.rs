@@ -6,7 +6,9 @@ use second::replay::Lent;
 
 const DISTRICTS: usize = 10;
 const DATE: i64 = 3_900_000_000;
-const SYLLABLES: [&str; 10] = ["BAR", "OUGHT", "ABLE", "PRI", "PRES", "ESE", "ANTI", "CALLY", "ATION", "EING"];
+const SYLLABLES: [&str; 10] = [
+    "BAR", "OUGHT", "ABLE", "PRI", "PRES", "ESE", "ANTI", "CALLY", "ATION", "EING",
+];
 
 /// The dimensions of a book, and how far it is filled.
 #[derive(Clone, Copy)]
@@ -23,6 +25,12 @@ pub struct Size {
 }
 
 impl Size {
+    fn head(&self) -> [i64; 6] {
+        let (w, c, i) = (self.warehouses, self.customers, self.items);
+        let (o, h) = (self.order_slots, self.history_slots);
+        [w, c, i, o, h, self.histories].map(|n| n as i64)
+    }
+
     pub fn layout(&self) -> Layout {
         Layout {
             warehouses: self.warehouses,
@@ -51,7 +59,7 @@ pub fn make(size: &Size) -> Lent {
     let random = &mut Random::new(1);
     let layout = size.layout();
     let mut nums = Vec::with_capacity(layout.numbers());
-    nums.extend([size.warehouses, size.customers, size.items, size.order_slots, size.history_slots, size.histories].map(|n| n as i64));
+    nums.extend(size.head());
     for _ in 0..size.warehouses {
         nums.extend([random.between(0, 2_000), 30_000_000]);
     }
@@ -62,7 +70,9 @@ pub fn make(size: &Size) -> Lent {
         let credit = i64::from(random.percent(10));
         nums.extend([credit, random.between(0, 5_000), -1_000, 1_000, 1, 0]);
     }
-    let prices: Vec<i64> = (0..size.items).map(|_| random.between(100, 10_000)).collect();
+    let prices: Vec<i64> = (0..size.items)
+        .map(|_| random.between(100, 10_000))
+        .collect();
     nums.extend(&prices);
     for _ in 0..size.warehouses * size.items {
         nums.extend([random.between(10, 100), 0, 0, 0]);
@@ -71,23 +81,42 @@ pub fn make(size: &Size) -> Lent {
         put_orders(random, &mut nums, size, district / DISTRICTS + 1, &prices);
     }
     put_histories(random, &mut nums, size);
-    Lent { nums, names: names(random, size) }
+    Lent {
+        nums,
+        names: names(random, size),
+    }
 }
 
 /// One district's slots: of its orders the last three in ten wait.
-fn put_orders(random: &mut Random, nums: &mut Vec<i64>, size: &Size, warehouse: usize, prices: &[i64]) {
+fn put_orders(
+    random: &mut Random,
+    nums: &mut Vec<i64>,
+    size: &Size,
+    warehouse: usize,
+    prices: &[i64],
+) {
     let buyers = permutation(random, size.customers);
     let section = nums.len();
     for number in 0..size.orders {
         let waits = number >= size.orders * 7 / 10;
-        let (carrier, delivered) = if waits { (0, 0) } else { (random.between(1, 10), DATE) };
+        let (carrier, delivered) = if waits {
+            (0, 0)
+        } else {
+            (random.between(1, 10), DATE)
+        };
         let count = random.between(5, 15);
         let buyer = buyers[number % buyers.len()] as i64;
         nums.extend([buyer, DATE, carrier, count, 1, i64::from(waits)]);
         for _ in 0..count {
             let item = 1 + random.below(size.items);
             let quantity = random.between(1, 10);
-            nums.extend([item as i64, warehouse as i64, quantity, quantity * prices[item - 1], delivered]);
+            nums.extend([
+                item as i64,
+                warehouse as i64,
+                quantity,
+                quantity * prices[item - 1],
+                delivered,
+            ]);
         }
         nums.resize(section + (number + 1) * order::WIDTH, 0);
     }
@@ -99,7 +128,9 @@ fn put_histories(random: &mut Random, nums: &mut Vec<i64>, size: &Size) {
         let customer = 1 + random.below(size.customers) as i64;
         let district = random.between(1, 10);
         let warehouse = 1 + random.below(size.warehouses) as i64;
-        nums.extend([customer, district, warehouse, district, warehouse, DATE, 1_000]);
+        nums.extend([
+            customer, district, warehouse, district, warehouse, DATE, 1_000,
+        ]);
     }
     nums.resize(size.layout().numbers(), 0);
 }
@@ -118,9 +149,15 @@ fn names(random: &mut Random, size: &Size) -> Vec<u8> {
     let mut names = Vec::with_capacity(size.layout().name_bytes());
     for _ in 0..DISTRICTS * size.warehouses {
         for customer in 0..size.customers {
-            let number = if customer < 1_000 { customer } else { non_uniform(random, 255, 1_000) - 1 };
+            let number = if customer < 1_000 {
+                customer
+            } else {
+                non_uniform(random, 255, 1_000) - 1
+            };
             put_name(&mut names, last_name(number));
-            let first = (0..8 + random.below(9)).map(|_| b'A' + random.below(26) as u8).collect();
+            let first = (0..8 + random.below(9))
+                .map(|_| b'A' + random.below(26) as u8)
+                .collect();
             put_name(&mut names, first);
         }
     }

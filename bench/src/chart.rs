@@ -41,7 +41,10 @@ impl Axis {
 
 /// The bars of one call, by class, each the speed as a multiple of the second engine's.
 fn bars(row: &Row) -> Vec<(&'static str, f64)> {
-    let mut bars = vec![("proved", row.second / row.proved), ("sql", row.second / row.sql)];
+    let mut bars = vec![
+        ("proved", row.second / row.proved),
+        ("sql", row.second / row.sql),
+    ];
     bars.extend(row.sum.map(|sum| ("sum", row.second / sum)));
     bars
 }
@@ -50,50 +53,98 @@ fn bars(row: &Row) -> Vec<(&'static str, f64)> {
 pub fn draw(title: &str, rows: &[Row]) -> String {
     let axis = Axis::of(rows.iter().flat_map(bars).map(|(_, speed)| speed));
     let bottom = TOP + GROUP * rows.len() as f64;
-    let mut svg = String::new();
     let (wide, high) = (LEFT + WIDTH + 70.0, bottom + 52.0);
-    let _ = writeln!(svg, "<svg xmlns=\"http://www.w3.org/2000/svg\" viewBox=\"0 0 {wide} {high}\" width=\"{wide}\" height=\"{high}\" role=\"img\">");
-    let _ = writeln!(svg, "<title>Speed of each call beside the second engine</title>\n{STYLE}");
-    let _ = writeln!(svg, "<text class=\"title\" x=\"12\" y=\"26\">Speed of each call, second engine = 1</text>");
-    let _ = writeln!(svg, "<text class=\"small\" x=\"12\" y=\"44\">{title}; right of the line is faster</text>");
+    let mut svg = format!(
+        "<svg xmlns=\"http://www.w3.org/2000/svg\" viewBox=\"0 0 {wide} {high}\" \
+         width=\"{wide}\" height=\"{high}\" role=\"img\">\n\
+         <title>Speed of each call beside the second engine</title>\n{STYLE}\n"
+    );
+    text(
+        &mut svg,
+        "title",
+        (12.0, 26.0),
+        "start",
+        "Speed of each call, second engine = 1",
+    );
+    let subtitle = format!("{title}; right of the line is faster");
+    text(&mut svg, "small", (12.0, 44.0), "start", &subtitle);
     put_legend(&mut svg);
     put_axis(&mut svg, &axis, bottom);
     for (place, row) in rows.iter().enumerate() {
         put_group(&mut svg, &axis, row, TOP + GROUP * place as f64);
     }
-    let one = axis.x(1.0);
-    let _ = writeln!(svg, "<line class=\"one\" x1=\"{one:.1}\" x2=\"{one:.1}\" y1=\"{:.1}\" y2=\"{bottom}\"/>\n</svg>", TOP - 6.0);
+    upright(&mut svg, "one", axis.x(1.0), bottom);
+    svg.push_str("</svg>\n");
     svg
 }
 
+fn text(svg: &mut String, class: &str, (x, y): (f64, f64), anchor: &str, what: &str) {
+    let place = format!("x=\"{x:.1}\" y=\"{y:.1}\" text-anchor=\"{anchor}\"");
+    let _ = writeln!(svg, "<text class=\"{class}\" {place}>{what}</text>");
+}
+
+fn bar(svg: &mut String, class: &str, (x, y): (f64, f64), wide: f64, high: f64) {
+    let place = format!("x=\"{x:.1}\" y=\"{y:.1}\" width=\"{wide:.1}\" height=\"{high:.1}\"");
+    let _ = writeln!(svg, "<rect class=\"{class}\" {place}/>");
+}
+
+/// A line from above the bars to below them.
+fn upright(svg: &mut String, class: &str, x: f64, bottom: f64) {
+    let top = TOP - 6.0;
+    let place = format!("x1=\"{x:.1}\" x2=\"{x:.1}\" y1=\"{top:.1}\" y2=\"{bottom:.1}\"");
+    let _ = writeln!(svg, "<line class=\"{class}\" {place}/>");
+}
+
 fn put_legend(svg: &mut String) {
-    let entries = [("proved", "proved library"), ("sql", "SQLite in memory, used rows unchecked"), ("sum", "plain sum of the used rows")];
-    for ((class, name), x) in entries.into_iter().zip([12.0, 150.0, 460.0]) {
-        let _ = writeln!(svg, "<rect class=\"{class}\" x=\"{x}\" y=\"57\" width=\"12\" height=\"12\"/><text x=\"{}\" y=\"68\">{name}</text>", x + 18.0);
+    let entries = [
+        ("proved", "proved library", 12.0),
+        ("sql", "SQLite in memory, used rows not judged", 150.0),
+        ("sum", "plain sum of the used rows", 460.0),
+    ];
+    for (class, name, x) in entries {
+        bar(svg, class, (x, 57.0), 12.0, 12.0);
+        text(svg, "name", (x + 18.0, 68.0), "start", name);
     }
 }
 
 fn put_axis(svg: &mut String, axis: &Axis, bottom: f64) {
     for power in axis.low..=axis.high {
         let x = axis.x(10_f64.powi(power));
-        let label = if power < 0 { format!("1/{}", 10_u64.pow(power.unsigned_abs())) } else { format!("{}", 10_u64.pow(power as u32)) };
-        let _ = writeln!(svg, "<line class=\"grid\" x1=\"{x:.1}\" x2=\"{x:.1}\" y1=\"{:.1}\" y2=\"{bottom}\"/>", TOP - 6.0);
-        let _ = writeln!(svg, "<text class=\"small\" x=\"{x:.1}\" y=\"{:.1}\" text-anchor=\"middle\">{label}</text>", bottom + 16.0);
+        let whole = 10_u64.pow(power.unsigned_abs());
+        let label = if power < 0 {
+            format!("1/{whole}")
+        } else {
+            format!("{whole}")
+        };
+        upright(svg, "grid", x, bottom);
+        text(svg, "small", (x, bottom + 16.0), "middle", &label);
     }
-    let middle = LEFT + WIDTH / 2.0;
-    let _ = writeln!(svg, "<text class=\"small\" x=\"{middle}\" y=\"{:.1}\" text-anchor=\"middle\">calls a second, as a multiple of the second engine's (logarithmic)</text>", bottom + 36.0);
+    let title = "calls a second, as a multiple of the second engine's (logarithmic)";
+    text(
+        svg,
+        "small",
+        (LEFT + WIDTH / 2.0, bottom + 36.0),
+        "middle",
+        title,
+    );
 }
 
 fn put_group(svg: &mut String, axis: &Axis, row: &Row, top: f64) {
     let bars = bars(row);
     let middle = top + BAR * bars.len() as f64 / 2.0 + 4.0;
-    let _ = writeln!(svg, "<text x=\"{}\" y=\"{middle:.1}\" text-anchor=\"end\">{}</text>", LEFT - 12.0, row.name);
+    text(svg, "name", (LEFT - 12.0, middle), "end", row.name);
     for (place, (class, speed)) in bars.into_iter().enumerate() {
-        let (one, end, y) = (axis.x(1.0), axis.x(speed), top + BAR * place as f64);
+        let (one, end) = (axis.x(1.0), axis.x(speed));
+        let y = top + BAR * place as f64;
         let wide = (end - one).abs().max(1.5);
-        let _ = writeln!(svg, "<rect class=\"{class}\" x=\"{:.1}\" y=\"{y:.1}\" width=\"{wide:.1}\" height=\"{}\"/>", one.min(end), BAR - 1.5);
-        let label_at = one.max(end) + 5.0;
-        let _ = writeln!(svg, "<text class=\"small\" x=\"{label_at:.1}\" y=\"{:.1}\">{}</text>", y + BAR - 2.0, figure(speed));
+        bar(svg, class, (one.min(end), y), wide, BAR - 1.5);
+        text(
+            svg,
+            "small",
+            (one.max(end) + 5.0, y + BAR - 3.0),
+            "start",
+            &figure(speed),
+        );
     }
 }
 

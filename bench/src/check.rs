@@ -24,8 +24,14 @@ pub struct Engines {
 impl Engines {
     pub fn on(lent: &Lent, layout: &second::layout::Layout) -> Engines {
         Engines {
-            proved: InBook { engine: ProvedEngine, lent: lent.clone() },
-            second: InBook { engine: SecondEngine, lent: lent.clone() },
+            proved: InBook {
+                engine: ProvedEngine,
+                lent: lent.clone(),
+            },
+            second: InBook {
+                engine: SecondEngine,
+                lent: lent.clone(),
+            },
             sql: Sql::of(lent, layout),
         }
     }
@@ -33,7 +39,11 @@ impl Engines {
     /// Carries out one request on all three; gives the refusal number, 0 where committed.
     pub fn agree(&mut self, request: &Request) -> i64 {
         let answer = self.second.answer(request);
-        assert_eq!(self.proved.answer(request), answer, "the proved library on {request:?}");
+        assert_eq!(
+            self.proved.answer(request),
+            answer,
+            "the proved library on {request:?}"
+        );
         assert_eq!(self.sql.answer(request), answer, "SQLite on {request:?}");
         answer[0]
     }
@@ -44,7 +54,11 @@ pub fn random_lists() -> [usize; 13] {
     let random = &mut Random::new(7);
     let mut answered = [0; 13];
     for list in 0..LISTS {
-        let mut layout = if list % 3 == 0 { books::crowded(random) } else { books::dimensions(random) };
+        let mut layout = if list % 3 == 0 {
+            books::crowded(random)
+        } else {
+            books::dimensions(random)
+        };
         if list % 3 == 1 {
             layout.history_slots = 5;
         }
@@ -55,7 +69,10 @@ pub fn random_lists() -> [usize; 13] {
             let request = asker.request(random, &WEIGHTS);
             answered[engines.agree(&request) as usize] += 1;
         }
-        assert!(engines.proved.lent == engines.second.lent, "the books differ after list {list}");
+        assert!(
+            engines.proved.lent == engines.second.lent,
+            "the books differ after list {list}"
+        );
     }
     answered
 }

@@ -64,40 +64,52 @@ pub struct InBook<E> {
     pub lent: Lent,
 }
 
+/// Puts an outcome and, where committed, its figures.
+fn put_figures<F, const N: usize>(
+    sink: &mut impl Sink,
+    outcome: Outcome<F>,
+    figures: impl Fn(F) -> [i64; N],
+) {
+    let committed = put_outcome(sink, outcome);
+    put_all(sink, committed.map(figures).iter().flatten());
+}
+
+pub fn put_all<'a>(sink: &mut impl Sink, numbers: impl Iterator<Item = &'a i64>) {
+    numbers.for_each(|&number| sink.put(number));
+}
+
 impl<E: Engine> Contender for InBook<E> {
     fn carry(&mut self, request: &Request, sink: &mut impl Sink) {
         match request {
             Request::NewOrder(r) => {
-                if let Some(f) = put_outcome(sink, self.engine.new_order(&mut self.lent, r)) {
-                    sink.put(f.order as i64);
-                    sink.put(f.total as i64);
-                }
+                let outcome = self.engine.new_order(&mut self.lent, r);
+                put_figures(sink, outcome, |f| [f.order as i64, f.total as i64]);
             }
             Request::Payment(r) => {
-                if let Some(f) = put_outcome(sink, self.engine.payment(&mut self.lent, r)) {
-                    sink.put(f.customer as i64);
-                    sink.put(f.balance);
-                }
+                let outcome = self.engine.payment(&mut self.lent, r);
+                put_figures(sink, outcome, |f| [f.customer as i64, f.balance]);
             }
             Request::Delivery(r) => {
                 let answer = self.engine.delivery(&mut self.lent, r);
-                if let Some(f) = put_outcome(sink, answer.outcome) {
-                    sink.put(f.skip_count as i64);
-                    sink.put(f.skip_mark as i64);
-                    answer.orders.iter().for_each(|&order| sink.put(order as i64));
-                }
+                put_figures(sink, answer.outcome, |f| {
+                    [f.skip_count as i64, f.skip_mark as i64]
+                });
+                answer
+                    .orders
+                    .iter()
+                    .for_each(|&order| sink.put(order as i64));
             }
             Request::OrderStatus(r) => {
                 let answer = self.engine.order_status(&self.lent, r);
-                if let Some(f) = put_outcome(sink, answer.outcome) {
-                    let figures = [f.customer as i64, f.balance, f.order as i64, f.entry_date as i64, f.carrier as i64];
-                    figures.iter().chain(answer.lines).for_each(|&number| sink.put(number));
-                }
+                put_figures(sink, answer.outcome, |f| {
+                    let shown = [f.order, f.entry_date, f.carrier].map(|n| n as i64);
+                    [f.customer as i64, f.balance, shown[0], shown[1], shown[2]]
+                });
+                put_all(sink, answer.lines.iter());
             }
             Request::StockLevel(r) => {
-                if let Some(f) = put_outcome(sink, self.engine.stock_level(&self.lent, r)) {
-                    sink.put(f.low_stock as i64);
-                }
+                let outcome = self.engine.stock_level(&self.lent, r);
+                put_figures(sink, outcome, |f| [f.low_stock as i64]);
             }
         }
     }

@@ -38,10 +38,16 @@ fn load_warehouse(db: &Database, lent: &Lent, layout: &Layout, w: usize) {
     insert(db, "warehouse", 3).run(&row(&[w as i64], &lent.nums[layout.warehouse(w)]));
     let mut stocks = insert(db, "stock", 6);
     for item in 1..=layout.items {
-        stocks.run(&row(&[w as i64, item as i64], &lent.nums[layout.stock(w, item)]));
+        stocks.run(&row(
+            &[w as i64, item as i64],
+            &lent.nums[layout.stock(w, item)],
+        ));
     }
     for d in 1..=10 {
-        insert(db, "district", 5).run(&row(&[w as i64, d as i64], &lent.nums[layout.district(w, d)]));
+        insert(db, "district", 5).run(&row(
+            &[w as i64, d as i64],
+            &lent.nums[layout.district(w, d)],
+        ));
         load_customers(db, lent, layout, (w, d));
         load_orders(db, lent, layout, (w, d));
     }
@@ -51,13 +57,20 @@ fn load_customers(db: &Database, lent: &Lent, layout: &Layout, (w, d): (usize, u
     let mut customers = insert(db, "customer", 11);
     let names = lent.names[layout.names_of(w, d)].chunks_exact(32);
     for (customer, name) in (1..=layout.customers).zip(names) {
-        let numbers = row(&[w as i64, d as i64, customer as i64], &lent.nums[layout.customer(w, d, customer)]);
+        let numbers = row(
+            &[w as i64, d as i64, customer as i64],
+            &lent.nums[layout.customer(w, d, customer)],
+        );
         customers.each_with::<0>(&numbers, &[&name[..16], &name[16..]], |_| ());
     }
 }
 
 fn load_orders(db: &Database, lent: &Lent, layout: &Layout, (w, d): (usize, usize)) {
-    let (mut orders, mut waiting, mut lines) = (insert(db, "orders", 8), insert(db, "new_order", 3), insert(db, "order_line", 9));
+    let (mut orders, mut waiting, mut lines) = (
+        insert(db, "orders", 8),
+        insert(db, "new_order", 3),
+        insert(db, "order_line", 9),
+    );
     let next = lent.nums[layout.district(w, d)][district::NEXT_ORDER] as usize;
     for number in 1..next {
         let slot = &lent.nums[layout.order(w, d, number)];
@@ -76,6 +89,9 @@ fn load_orders(db: &Database, lent: &Lent, layout: &Layout, (w, d): (usize, usiz
 fn load_histories(db: &Database, lent: &Lent, layout: &Layout) {
     let mut histories = insert(db, "history", 8);
     for before in 0..layout.history_count {
-        histories.run(&row(&[before as i64 + 1], &lent.nums[layout.history(before)]));
+        histories.run(&row(
+            &[before as i64 + 1],
+            &lent.nums[layout.history(before)],
+        ));
     }
 }

@@ -1,6 +1,7 @@
 //! Measures the proved library beside the second engine, SQLite in memory and, for the calls that scan, a plain sum.
 //!
-//! Prints Markdown tables and draws one chart: bench CHART [quick].
+//! Prints Markdown tables and draws one chart: bench CHART [quick | profile CALL WAREHOUSES]. Quick leaves out the large books and
+//! the chart; profile carries out one call on the proved library alone, for a profiler to look at.
 
 mod book;
 mod chart;
@@ -21,33 +22,61 @@ const HALF: usize = 1_500;
 const NEARLY: usize = 2_700;
 
 fn main() {
-    let mut arguments = std::env::args().skip(1);
-    let chart = arguments.next().expect("where the chart goes");
-    let quick = arguments.next().is_some();
+    let arguments: Vec<String> = std::env::args().skip(1).collect();
+    let words: Vec<&str> = arguments.iter().map(String::as_str).collect();
+    match words[..] {
+        [_, "quick"] => {
+            measured(1);
+        }
+        [_, "profile", call, warehouses] => {
+            let warehouses = warehouses.parse().expect("a number of warehouses");
+            measure::alone(call, &sized(warehouses, NEARLY));
+        }
+        [chart] => {
+            let (title, rows) = measured(5);
+            std::fs::write(chart, chart::draw(title, &rows)).expect("the chart can be written");
+            grown();
+        }
+        _ => eprintln!("usage: bench CHART [quick | profile CALL WAREHOUSES]"),
+    }
+}
+
+/// All tables of books up to `most` warehouses; the last book's rows.
+fn measured(most: usize) -> (&'static str, Vec<measure::Row>) {
     tables::machine();
     checked();
-    let books = compared(if quick { 1 } else { 5 });
+    let mut books = compared(most);
     tables::missed(&books);
     tables::wrapper(measure::wrapper());
-    if quick {
-        return;
-    }
-    let (title, rows) = books.last().expect("a book");
-    std::fs::write(&chart, chart::draw(title, rows)).expect("the chart can be written");
-    grown();
+    books.pop().expect("a book")
 }
 
 /// The same answers first.
 fn checked() {
     let answered = check::random_lists();
-    let refusals: Vec<String> = (1..13).filter(|&n| answered[n] > 0).map(|n| format!("{n}: {}", answered[n])).collect();
-    println!("Answers compared before timing: {} committed; refused by {}.", answered[0], refusals.join(", "));
+    let refusals: Vec<String> = (1..13)
+        .filter(|&n| answered[n] > 0)
+        .map(|n| format!("{n}: {}", answered[n]))
+        .collect();
+    println!(
+        "\nRequests whose answers were compared before timing: {} committed; refused by number {}.",
+        answered[0],
+        refusals.join(", ")
+    );
 }
 
 /// C 3,000, I 100,000, O 3,000, H 100,000.
 fn sized(warehouses: usize, orders: usize) -> Size {
     let histories = 100_000 * orders / 3_000;
-    Size { warehouses, customers: 3_000, items: 100_000, order_slots: 3_000, history_slots: 100_000, orders, histories }
+    Size {
+        warehouses,
+        customers: 3_000,
+        items: 100_000,
+        order_slots: 3_000,
+        history_slots: 100_000,
+        orders,
+        histories,
+    }
 }
 
 /// The tables of each book up to `most` warehouses.
@@ -59,7 +88,9 @@ fn compared(most: usize) -> Vec<(&'static str, Vec<measure::Row>)> {
         ("W 5, half full", 5, HALF),
         ("W 5, nearly full", 5, NEARLY),
     ];
-    let chosen = books.into_iter().filter(|&(_, warehouses, _)| warehouses <= most);
+    let chosen = books
+        .into_iter()
+        .filter(|&(_, warehouses, _)| warehouses <= most);
     let measured = chosen.map(|(title, warehouses, orders)| {
         let rows = measure::book(&sized(warehouses, orders), 1);
         tables::compared(title, &rows);

@@ -2,8 +2,8 @@
 
 use crate::book::{self, Size};
 use crate::check::Engines;
-use crate::counting;
 use crate::contender::{Contender, InBook};
+use crate::counting;
 use crate::requests::{Asker, Call, Timed, CALLS};
 use crate::sums;
 use proved::ProvedEngine;
@@ -36,7 +36,14 @@ struct Field {
 impl Field {
     fn on(lent: Lent, layout: Layout) -> Field {
         let engines = Engines::on(&lent, &layout);
-        Field { engines, summed: InBook { engine: SecondEngine, lent }, layout }
+        Field {
+            engines,
+            summed: InBook {
+                engine: SecondEngine,
+                lent,
+            },
+            layout,
+        }
     }
 
     /// Microseconds a call of one contender, and the digest of its answers.
@@ -48,7 +55,9 @@ impl Field {
             2 => self.engines.sql.batch(requests),
             _ => {
                 let lent = black_box(&self.summed.lent);
-                requests.iter().fold(0, |all, r| all ^ sums::used_rows(lent, &self.layout, r) as u64)
+                requests.iter().fold(0, |all, r| {
+                    all ^ sums::used_rows(lent, &self.layout, r) as u64
+                })
             }
         };
         let spent = start.elapsed().as_secs_f64() * 1e6 / requests.len() as f64;
@@ -64,7 +73,10 @@ impl Field {
             best[contender] = best[contender].min(spent);
             digests[contender] = digest;
         }
-        assert!(digests[0] == digests[1] && digests[1] == digests[2], "the engines answered differently");
+        assert!(
+            digests[0] == digests[1] && digests[1] == digests[2],
+            "the engines answered differently"
+        );
     }
 }
 
@@ -76,9 +88,15 @@ pub fn book(size: &Size, fewer: usize) -> Vec<Row> {
         field.engines.agree(&request);
         field.summed.answer(&request);
     }
-    let rows = CALLS.iter().map(|timed| row(&mut field, &mut asker, timed, fewer)).collect();
+    let rows = CALLS
+        .iter()
+        .map(|timed| row(&mut field, &mut asker, timed, fewer))
+        .collect();
     let Engines { proved, second, .. } = &field.engines;
-    assert!(proved.lent == second.lent && second.lent == field.summed.lent, "the books differ at the end");
+    assert!(
+        proved.lent == second.lent && second.lent == field.summed.lent,
+        "the books differ at the end"
+    );
     rows
 }
 
@@ -92,15 +110,33 @@ fn row(field: &mut Field, asker: &mut Asker, timed: &Timed, fewer: usize) -> Row
         }
     }
     let [proved, second, sql, sum] = best;
-    Row { call: timed.call, name: timed.name, proved, second, sql, sum: sums::scans(timed.call).then_some(sum) }
+    Row {
+        call: timed.call,
+        name: timed.name,
+        proved,
+        second,
+        sql,
+        sum: sums::scans(timed.call).then_some(sum),
+    }
 }
 
 /// What a New-Order's lines cost before they reach the proved library: allocations of the test wrapper, and the microseconds of three
 /// vectors filled from the lines, which is what it does where it allocates.
 pub fn wrapper() -> (usize, f64) {
-    let size = Size { warehouses: 1, customers: 10, items: 10, order_slots: 10, history_slots: 1, orders: 0, histories: 0 };
+    let size = Size {
+        warehouses: 1,
+        customers: 10,
+        items: 10,
+        order_slots: 10,
+        history_slots: 1,
+        orders: 0,
+        histories: 0,
+    };
     let requests = Asker::new(&size, 3).batch(Call::NewOrder, 200);
-    let mut proved = InBook { engine: ProvedEngine, lent: book::make(&size) };
+    let mut proved = InBook {
+        engine: ProvedEngine,
+        lent: book::make(&size),
+    };
     let before = counting::allocations();
     proved.batch(&requests[..1]);
     let allocations = counting::allocations() - before;
@@ -112,9 +148,32 @@ pub fn wrapper() -> (usize, f64) {
 fn copied(requests: &[Request]) -> f64 {
     let start = Instant::now();
     for request in requests {
-        let Request::NewOrder(r) = request else { continue };
+        let Request::NewOrder(r) = request else {
+            continue;
+        };
         let column = |field: fn(&Line) -> u64| -> Vec<u64> { r.lines.iter().map(field).collect() };
-        black_box((column(|line| line.item), column(|line| line.supply_warehouse), column(|line| line.quantity)));
+        black_box((
+            column(|line| line.item),
+            column(|line| line.supply_warehouse),
+            column(|line| line.quantity),
+        ));
     }
     start.elapsed().as_secs_f64() * 1e6 / requests.len() as f64
+}
+
+/// Carries out one call's rounds on the proved library alone, ten times over.
+pub fn alone(name: &str, size: &Size) {
+    let timed = CALLS.iter().find(|timed| timed.name == name);
+    let timed = timed.expect("the name of a row");
+    let fresh = book::make(size);
+    for _ in 0..10 {
+        let mut asker = Asker::new(size, 2);
+        let mut proved = InBook {
+            engine: ProvedEngine,
+            lent: fresh.clone(),
+        };
+        for _ in 0..timed.rounds {
+            black_box(proved.batch(&asker.batch(timed.call, timed.batch)));
+        }
+    }
 }

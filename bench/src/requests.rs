@@ -28,7 +28,12 @@ pub struct Timed {
 }
 
 const fn timed(call: Call, name: &'static str, batch: usize, rounds: usize) -> Timed {
-    Timed { call, name, batch, rounds }
+    Timed {
+        call,
+        name,
+        batch,
+        rounds,
+    }
 }
 
 /// Every row. A batch is short, so that among its rounds some are undisturbed; New-Orders are as many as a nearly full book has room for.
@@ -45,7 +50,10 @@ pub const CALLS: [Timed; 8] = [
 
 impl Call {
     pub fn writes(self) -> bool {
-        !matches!(self, Call::StatusByNumber | Call::StatusByName | Call::StockLevel)
+        !matches!(
+            self,
+            Call::StatusByNumber | Call::StatusByName | Call::StockLevel
+        )
     }
 }
 
@@ -58,7 +66,11 @@ pub struct Asker {
 
 impl Asker {
     pub fn new(size: &Size, seed: u64) -> Asker {
-        Asker { random: Random::new(seed), size: *size, terminal: 0 }
+        Asker {
+            random: Random::new(seed),
+            size: *size,
+            terminal: 0,
+        }
     }
 
     /// A batch of requests of one kind.
@@ -115,7 +127,10 @@ impl Asker {
     /// Warehouse and district of the terminal whose turn it is.
     fn terminal(&mut self) -> (u64, u64) {
         self.terminal += 1;
-        let (warehouse, district) = (self.terminal / 10 % self.size.warehouses, self.terminal % 10);
+        let (warehouse, district) = (
+            self.terminal / 10 % self.size.warehouses,
+            self.terminal % 10,
+        );
         (warehouse as u64 + 1, district as u64 + 1)
     }
 
@@ -129,7 +144,9 @@ impl Asker {
             return Who::Number(self.customer());
         }
         let names = self.size.customers.min(1_000);
-        Who::LastName(book::last_name(book::non_uniform(&mut self.random, 255, names) - 1))
+        Who::LastName(book::last_name(
+            book::non_uniform(&mut self.random, 255, names) - 1,
+        ))
     }
 
     /// Another warehouse in so many of a hundred cases, where there is another.
@@ -169,7 +186,11 @@ impl Asker {
             warehouse,
             district,
             customer_warehouse,
-            customer_district: if away { self.random.between(1, 10) as u64 } else { district },
+            customer_district: if away {
+                self.random.between(1, 10) as u64
+            } else {
+                district
+            },
             who: self.who(call == Call::PaymentByName),
             date: DATE,
             amount: self.random.between(100, 500_000) as u64,
@@ -178,17 +199,29 @@ impl Asker {
 
     fn delivery(&mut self) -> Request {
         let warehouse = 1 + self.random.below(self.size.warehouses) as u64;
-        Request::Delivery(Delivery { warehouse, carrier: self.random.between(1, 10) as u64, date: DATE })
+        Request::Delivery(Delivery {
+            warehouse,
+            carrier: self.random.between(1, 10) as u64,
+            date: DATE,
+        })
     }
 
     fn status(&mut self, call: Call) -> Request {
         let (warehouse, district) = self.terminal();
         let who = self.who(call == Call::StatusByName);
-        Request::OrderStatus(OrderStatus { warehouse, district, who })
+        Request::OrderStatus(OrderStatus {
+            warehouse,
+            district,
+            who,
+        })
     }
 
     fn stock_level(&mut self) -> Request {
         let (warehouse, district) = self.terminal();
-        Request::StockLevel(StockLevel { warehouse, district, threshold: self.random.between(10, 20) as u64 })
+        Request::StockLevel(StockLevel {
+            warehouse,
+            district,
+            threshold: self.random.between(10, 20) as u64,
+        })
     }
 }

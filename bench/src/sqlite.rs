@@ -18,14 +18,38 @@ const PREPARE_PERSISTENT: u32 = 1;
 
 extern "C" {
     fn sqlite3_libversion() -> *const c_char;
-    fn sqlite3_open_v2(name: *const c_char, db: *mut *mut RawDatabase, flags: c_int, vfs: *const c_char) -> c_int;
+    fn sqlite3_open_v2(
+        name: *const c_char,
+        db: *mut *mut RawDatabase,
+        flags: c_int,
+        vfs: *const c_char,
+    ) -> c_int;
     fn sqlite3_close(db: *mut RawDatabase) -> c_int;
     fn sqlite3_errmsg(db: *mut RawDatabase) -> *const c_char;
-    fn sqlite3_exec(db: *mut RawDatabase, sql: *const c_char, callback: *const c_void, data: *mut c_void, message: *mut *mut c_char) -> c_int;
-    fn sqlite3_prepare_v3(db: *mut RawDatabase, sql: *const c_char, len: c_int, flags: u32, statement: *mut *mut RawStatement, tail: *mut *const c_char) -> c_int;
+    fn sqlite3_exec(
+        db: *mut RawDatabase,
+        sql: *const c_char,
+        callback: *const c_void,
+        data: *mut c_void,
+        message: *mut *mut c_char,
+    ) -> c_int;
+    fn sqlite3_prepare_v3(
+        db: *mut RawDatabase,
+        sql: *const c_char,
+        len: c_int,
+        flags: u32,
+        statement: *mut *mut RawStatement,
+        tail: *mut *const c_char,
+    ) -> c_int;
     fn sqlite3_finalize(statement: *mut RawStatement) -> c_int;
     fn sqlite3_bind_int64(statement: *mut RawStatement, place: c_int, value: i64) -> c_int;
-    fn sqlite3_bind_blob(statement: *mut RawStatement, place: c_int, value: *const c_void, len: c_int, destroy: *const c_void) -> c_int;
+    fn sqlite3_bind_blob(
+        statement: *mut RawStatement,
+        place: c_int,
+        value: *const c_void,
+        len: c_int,
+        destroy: *const c_void,
+    ) -> c_int;
     fn sqlite3_step(statement: *mut RawStatement) -> c_int;
     fn sqlite3_reset(statement: *mut RawStatement) -> c_int;
     fn sqlite3_column_int64(statement: *mut RawStatement, column: c_int) -> i64;
@@ -34,7 +58,9 @@ extern "C" {
 /// The version of the library that is linked.
 pub fn version() -> String {
     // SAFETY: a static string that ends with 0.
-    unsafe { CStr::from_ptr(sqlite3_libversion()) }.to_string_lossy().into_owned()
+    unsafe { CStr::from_ptr(sqlite3_libversion()) }
+        .to_string_lossy()
+        .into_owned()
 }
 
 /// A database in memory. Its statements have to be dropped before it.
@@ -44,14 +70,19 @@ impl Database {
     pub fn in_memory() -> Database {
         let mut raw = ptr::null_mut();
         // SAFETY: the name ends with 0 and `raw` outlives the call.
-        let code = unsafe { sqlite3_open_v2(c":memory:".as_ptr(), &mut raw, OPEN_FLAGS, ptr::null()) };
+        let code =
+            unsafe { sqlite3_open_v2(c":memory:".as_ptr(), &mut raw, OPEN_FLAGS, ptr::null()) };
         assert_eq!(code, OK, "SQLite does not open");
         Database(raw)
     }
 
     fn expect(&self, code: c_int, wanted: c_int, what: &str) {
         // SAFETY: the database is open; the message ends with 0.
-        let message = || unsafe { CStr::from_ptr(sqlite3_errmsg(self.0)) }.to_string_lossy().into_owned();
+        let message = || {
+            unsafe { CStr::from_ptr(sqlite3_errmsg(self.0)) }
+                .to_string_lossy()
+                .into_owned()
+        };
         assert!(code == wanted, "{what}: {}", message());
     }
 
@@ -59,7 +90,15 @@ impl Database {
     pub fn exec(&self, sql: &str) {
         let text = CString::new(sql).expect("no byte 0 in a statement");
         // SAFETY: the database is open, the text ends with 0.
-        let code = unsafe { sqlite3_exec(self.0, text.as_ptr(), ptr::null(), ptr::null_mut(), ptr::null_mut()) };
+        let code = unsafe {
+            sqlite3_exec(
+                self.0,
+                text.as_ptr(),
+                ptr::null(),
+                ptr::null_mut(),
+                ptr::null_mut(),
+            )
+        };
         self.expect(code, OK, sql);
     }
 
@@ -67,7 +106,16 @@ impl Database {
         let text = CString::new(sql).expect("no byte 0 in a statement");
         let mut raw = ptr::null_mut();
         // SAFETY: the database is open, the text ends with 0, `raw` outlives the call.
-        let code = unsafe { sqlite3_prepare_v3(self.0, text.as_ptr(), -1, PREPARE_PERSISTENT, &mut raw, ptr::null_mut()) };
+        let code = unsafe {
+            sqlite3_prepare_v3(
+                self.0,
+                text.as_ptr(),
+                -1,
+                PREPARE_PERSISTENT,
+                &mut raw,
+                ptr::null_mut(),
+            )
+        };
         self.expect(code, OK, sql);
         Statement(raw)
     }
@@ -94,7 +142,15 @@ impl Statement {
 
     /// Binds bytes that have to live until the statement is reset.
     fn bind_bytes(&mut self, place: usize, bytes: &[u8]) {
-        let code = unsafe { sqlite3_bind_blob(self.0, place as c_int, bytes.as_ptr().cast(), bytes.len() as c_int, ptr::null()) };
+        let code = unsafe {
+            sqlite3_bind_blob(
+                self.0,
+                place as c_int,
+                bytes.as_ptr().cast(),
+                bytes.len() as c_int,
+                ptr::null(),
+            )
+        };
         assert_eq!(code, OK, "a parameter too many");
     }
 
@@ -135,7 +191,12 @@ impl Statement {
     }
 
     /// As `each`, with bytes after the numbers.
-    pub fn each_with<const N: usize>(&mut self, numbers: &[i64], bytes: &[&[u8]], mut take: impl FnMut([i64; N])) {
+    pub fn each_with<const N: usize>(
+        &mut self,
+        numbers: &[i64],
+        bytes: &[&[u8]],
+        mut take: impl FnMut([i64; N]),
+    ) {
         for (place, part) in bytes.iter().enumerate() {
             self.bind_bytes(numbers.len() + 1 + place, part);
         }

@@ -18,26 +18,32 @@ pub fn used_rows(lent: &Lent, layout: &Layout, request: &Request) -> i64 {
         Request::Payment(r) => {
             let home = (r.customer_warehouse as usize, r.customer_district as usize);
             let terminal = layout.district(r.warehouse as usize, r.district as usize);
-            let money = sum(&lent.nums[layout.warehouse(r.warehouse as usize)]).wrapping_add(sum(&lent.nums[terminal]));
+            let money = sum(&lent.nums[layout.warehouse(r.warehouse as usize)])
+                .wrapping_add(sum(&lent.nums[terminal]));
             money.wrapping_add(customers(lent, layout, home, &r.who))
         }
         Request::Delivery(r) => (1..=10).fold(0, |all: i64, district| {
             let (w, d) = (r.warehouse as usize, district);
             let row = sum(&lent.nums[layout.district(w, d)]);
             let customers = sum(&lent.nums[layout.customers_of(w, d)]);
-            all.wrapping_add(row).wrapping_add(customers).wrapping_add(orders_from(lent, layout, (w, d), 1))
+            all.wrapping_add(row)
+                .wrapping_add(customers)
+                .wrapping_add(orders_from(lent, layout, (w, d), 1))
         }),
         Request::OrderStatus(r) => {
             let place = (r.warehouse as usize, r.district as usize);
             let row = sum(&lent.nums[layout.district(place.0, place.1)]);
-            row.wrapping_add(customers(lent, layout, place, &r.who)).wrapping_add(orders_from(lent, layout, place, 1))
+            row.wrapping_add(customers(lent, layout, place, &r.who))
+                .wrapping_add(orders_from(lent, layout, place, 1))
         }
         Request::StockLevel(r) => {
             let place = (r.warehouse as usize, r.district as usize);
             let row = &lent.nums[layout.district(place.0, place.1)];
             let first = second::stock_level::window_start(row[district::NEXT_ORDER] as usize);
             let window = orders_from(lent, layout, place, first);
-            sum(row).wrapping_add(window).wrapping_add(sum(&lent.nums[layout.stock_of(place.0)]))
+            sum(row)
+                .wrapping_add(window)
+                .wrapping_add(sum(&lent.nums[layout.stock_of(place.0)]))
         }
     }
 }
@@ -59,15 +65,21 @@ fn orders_from(lent: &Lent, layout: &Layout, (w, d): (usize, usize), first: usiz
     let section = &lent.nums[layout.orders_of(w, d)];
     section[(first - 1) * order::WIDTH..(next - 1) * order::WIDTH]
         .chunks_exact(order::WIDTH)
-        .fold(0, |all: i64, slot| all.wrapping_add(sum(&slot[..used_numbers(slot)])))
+        .fold(0, |all: i64, slot| {
+            all.wrapping_add(sum(&slot[..used_numbers(slot)]))
+        })
 }
 
 fn sum(numbers: &[i64]) -> i64 {
-    numbers.iter().fold(0, |all, &number| all.wrapping_add(number))
+    numbers
+        .iter()
+        .fold(0, |all, &number| all.wrapping_add(number))
 }
 
 /// Bytes are taken eight at a time.
 fn sum_bytes(bytes: &[u8]) -> i64 {
     let word = |eight: &[u8]| eight.try_into().map_or(0, i64::from_le_bytes);
-    bytes.chunks_exact(8).fold(0, |all: i64, eight| all.wrapping_add(word(eight)))
+    bytes
+        .chunks_exact(8)
+        .fold(0, |all: i64, eight| all.wrapping_add(word(eight)))
 }

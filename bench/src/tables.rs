@@ -41,7 +41,12 @@ pub fn compared(title: &str, rows: &[Row]) {
 /// Times at each size, and the largest as a multiple of the smallest.
 pub fn growth(titles: &[&str], sizes: &[Vec<Row>]) {
     let heads: Vec<String> = titles.iter().map(|title| format!("{title}, µs")).collect();
-    println!("\n| Call | Who | {} | {} ÷ {} |", heads.join(" | "), titles[titles.len() - 1], titles[0]);
+    println!(
+        "\n| Call | Who | {} | {} ÷ {} |",
+        heads.join(" | "),
+        titles[titles.len() - 1],
+        titles[0]
+    );
     println!("|---|---|{}--:|", "--:|".repeat(titles.len()));
     for (place, first) in sizes[0].iter().enumerate() {
         line(first.name, "proved", sizes, |rows| Some(rows[place].proved));
@@ -55,13 +60,17 @@ fn line(call: &str, who: &str, sizes: &[Vec<Row>], pick: impl Fn(&[Row]) -> Opti
     let times: Vec<f64> = sizes.iter().filter_map(|rows| pick(rows)).collect();
     if let (Some(first), Some(last)) = (times.first(), times.last()) {
         let cells: Vec<String> = times.iter().map(|&t| time(t)).collect();
-        println!("| {call} | {who} | {} | {:.1} |", cells.join(" | "), last / first);
+        println!(
+            "| {call} | {who} | {} | {:.1} |",
+            cells.join(" | "),
+            last / first
+        );
     }
 }
 
 /// The rows that miss what was set out to reach, over all books.
 pub fn missed(books: &[(&str, Vec<Row>)]) {
-    println!("\nSlower than the second engine, or under half the speed of the plain sum (Delivery, Order-Status, Stock-Level):\n");
+    println!("\n### What misses the mark\n\nSlower than the second engine, or under half the speed of the plain sum (Delivery, Order-Status, Stock-Level):\n");
     let mut any = false;
     for (title, rows) in books {
         for row in rows {
@@ -76,12 +85,21 @@ pub fn missed(books: &[(&str, Vec<Row>)]) {
 fn miss(title: &str, row: &Row) -> bool {
     use crate::requests::Call;
     let to_second = row.proved / row.second;
-    let to_sum = row.sum.filter(|_| row.call != Call::PaymentByName).map_or(0.0, |sum| row.proved / sum);
+    let to_sum = row
+        .sum
+        .filter(|_| row.call != Call::PaymentByName)
+        .map_or(0.0, |sum| row.proved / sum);
     if to_second > 1.0 {
-        println!("- {title}, {}: {to_second:.2} times the second engine's time.", row.name);
+        println!(
+            "- {title}, {}: {to_second:.2} times the second engine's time.",
+            row.name
+        );
     }
     if to_sum > 2.0 {
-        println!("- {title}, {}: {to_sum:.2} times the plain sum's time.", row.name);
+        println!(
+            "- {title}, {}: {to_sum:.2} times the plain sum's time.",
+            row.name
+        );
     }
     to_second > 1.0 || to_sum > 2.0
 }
@@ -98,11 +116,27 @@ pub fn wrapper((allocations, micros): (usize, f64)) {
 pub fn machine() {
     let field = |file: &str, name: &str| {
         let text = fs::read_to_string(file).unwrap_or_default();
-        let line = text.lines().find(|line| line.starts_with(name)).unwrap_or_default();
-        line.split(':').nth(1).unwrap_or_default().trim().to_string()
+        let line = text
+            .lines()
+            .find(|line| line.starts_with(name))
+            .unwrap_or_default();
+        line.split(':')
+            .nth(1)
+            .unwrap_or_default()
+            .trim()
+            .to_string()
     };
+    println!("## Machine and check\n");
     let cores = std::thread::available_parallelism().map_or(0, usize::from);
-    let kilobytes = field("/proc/meminfo", "MemTotal").trim_end_matches(" kB").parse().unwrap_or(0.0);
-    println!("Machine: {}, {cores} cores, cache of {}, {:.0} GiB.", field("/proc/cpuinfo", "model name"), field("/proc/cpuinfo", "cache size"), kilobytes / f64::from(1 << 20));
+    let kilobytes = field("/proc/meminfo", "MemTotal")
+        .trim_end_matches(" kB")
+        .parse()
+        .unwrap_or(0.0);
+    println!(
+        "Machine: {}, {cores} cores, cache of {}, {:.0} GiB.",
+        field("/proc/cpuinfo", "model name"),
+        field("/proc/cpuinfo", "cache size"),
+        kilobytes / f64::from(1 << 20)
+    );
     println!("SQLite {}.", crate::sqlite::version());
 }
