@@ -47,7 +47,7 @@ fn measured(most: usize) -> (&'static str, Vec<measure::Row>) {
     checked();
     let mut books = compared(most);
     tables::missed(&books);
-    tables::wrapper(measure::wrapper());
+    tables::wrapper(measure::wrapper(&sized(1, HALF)));
     books.pop().expect("a book")
 }
 

@@ -121,44 +121,50 @@ fn row(field: &mut Field, asker: &mut Asker, timed: &Timed, fewer: usize) -> Row
 }
 
 /// What a New-Order's lines cost before they reach the proved library: allocations of the test wrapper, and the microseconds of three
-/// vectors filled from the lines, which is what it does where it allocates.
-pub fn wrapper() -> (usize, f64) {
-    let size = Size {
-        warehouses: 1,
-        customers: 10,
-        items: 10,
-        order_slots: 10,
-        history_slots: 1,
-        orders: 0,
-        histories: 0,
-    };
-    let requests = Asker::new(&size, 3).batch(Call::NewOrder, 200);
+/// vectors filled from the lines, which is what it does where it allocates. They are timed as so much more before each call.
+pub fn wrapper(size: &Size) -> (usize, f64) {
+    let mut asker = Asker::new(size, 3);
+    let lent = book::make(size);
     let mut proved = InBook {
         engine: ProvedEngine,
-        lent: book::make(&size),
+        lent,
     };
+    let first = asker.batch(Call::NewOrder, 1);
     let before = counting::allocations();
-    proved.batch(&requests[..1]);
+    proved.batch(&first);
     let allocations = counting::allocations() - before;
-    let best = (0..50).map(|_| copied(&requests)).fold(f64::MAX, f64::min);
-    (allocations, best)
+    let mut best = [f64::MAX; 2];
+    for round in 0..100 {
+        let requests = asker.batch(Call::NewOrder, 100);
+        let more = round % 2;
+        best[more] = best[more].min(time_copied(&mut proved, &requests, more));
+    }
+    (allocations, best[1] - best[0])
 }
 
-/// Microseconds to copy a New-Order's lines into three vectors.
-fn copied(requests: &[Request]) -> f64 {
+/// Microseconds a New-Order, the lines copied so many times before each.
+fn time_copied(proved: &mut InBook<ProvedEngine>, requests: &[Request], times: usize) -> f64 {
     let start = Instant::now();
     for request in requests {
-        let Request::NewOrder(r) = request else {
-            continue;
-        };
-        let column = |field: fn(&Line) -> u64| -> Vec<u64> { r.lines.iter().map(field).collect() };
-        black_box((
-            column(|line| line.item),
-            column(|line| line.supply_warehouse),
-            column(|line| line.quantity),
-        ));
+        for _ in 0..times {
+            black_box(columns(request));
+        }
+        black_box(proved.batch(std::slice::from_ref(request)));
     }
     start.elapsed().as_secs_f64() * 1e6 / requests.len() as f64
+}
+
+/// A New-Order's lines as three vectors.
+fn columns(request: &Request) -> [Vec<u64>; 3] {
+    let Request::NewOrder(r) = request else {
+        return Default::default();
+    };
+    let column = |field: fn(&Line) -> u64| r.lines.iter().map(field).collect();
+    [
+        column(|line| line.item),
+        column(|line| line.supply_warehouse),
+        column(|line| line.quantity),
+    ]
 }
 
 /// Carries out one call's rounds on the proved library alone, ten times over.

@@ -108,7 +108,7 @@ fn miss(title: &str, row: &Row) -> bool {
 pub fn wrapper((allocations, micros): (usize, f64)) {
     match allocations {
         0 => println!("\nThe test wrapper of a New-Order allocates nothing."),
-        n => println!("\nNew-Order's time on the proved library includes {n} vectors of the test wrapper, about {micros:.3} µs."),
+        n => println!("\nNew-Order's time on the proved library includes {n} vectors of the test wrapper, at least {micros:.2} µs."),
     }
 }
 
