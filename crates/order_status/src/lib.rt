@@ -7,18 +7,18 @@ ghost use lib.Dec.{leb};
 ghost use lib.IntN.{pos};
 ghost use lib.ListN.{length};
 ghost use Rattle.model.specs.Tests.{every, fault};
-ghost use Rattle.model.specs.Layout.{shapes};
+ghost use Rattle.model.specs.Layout.{shapes, nameBytes};
 ghost use Rattle.model.specs.Store.{get, num};
 ghost use Rattle.model.specs.Rows.{balance, lineCount};
 ghost use Rattle.model.specs.Head.{dims};
-ghost use Rattle.model.specs.Names.{whoOf};
+ghost use Rattle.model.specs.Names.{whoOf, whoTests, customerOf};
 ghost use Rattle.model.specs.Lists.{largest};
-ghost use Rattle.model.specs.Used.{districtUsed};
+ghost use Rattle.model.specs.Used.{districtUsed, whoUsed};
 ghost use Rattle.model.specs.Answer.{statusSays};
 ghost use Rattle.model.specs.OrderStatus.{statusAsked, statusUsed, statusFault, lastOrder, statusCustomer, statusOrder, orderShown, linesShown, statusAnswer, statusLines};
 ghost use Rattle.model.specs.Request.{partOf};
 ghost use Rattle.model.specs.Claim.{R};
-ghost use Rattle.model.proofs.Fields.{Shaped};
+ghost use Rattle.model.proofs.Fields.{Dimensioned, Shaped};
 ghost use Rattle.model.proofs.StatusFacts.{StatusAsked};
 ghost use Rattle.rows.specs.Book.{Booked};
 ghost use Rattle.order_status.specs.Seen.{seenBy, nothing, isAt};
@@ -131,6 +131,28 @@ fn last_order(b: &[i64], d: Dims, w: u64, k: u64, c: u64) -> u64
     last_of(b, base, c, n)
 }
 
+// The customer that a request names, by number or by last name.
+fn customer_of(names: &[u8], d: Dims, w: u64, k: u64, who: Selection, name: &[u8]) -> Found
+    requires { ⌜ Dimensioned d × (R (d .warehouses) w × (R 10 k × (length (now names) ≡ nameBytes d))) ⌝ }
+    ensures { λ r. ⌜ r ≡ customerOf d (now (names .entry)) w k (whoOf who (now (name .entry))) ⌝ }
+{
+    match who {
+        Selection::Number(c) => Found::Customer(c),
+        Selection::LastName => lookup::find(names, d, w, k, name),
+    }
+}
+
+// The row of a customer given by number is in range, or by last name all rows and names of the district's customers.
+fn who_used(b: &[i64], names: &[u8], d: Dims, w: u64, k: u64, who: Selection, name: &[u8]) -> bool
+    requires { ⌜ Booked d (now b) × (R (d .warehouses) w × (R 10 k × ((length (now names) ≡ nameBytes d) × (every (whoTests d (whoOf who (now name))) ≡ true)))) ⌝ }
+    ensures { λ r. ⌜ r ≡ whoUsed d (now (b .entry)) (now (names .entry)) w k (whoOf who (now (name .entry))) ⌝ }
+{
+    match who {
+        Selection::Number(c) => rows::customer_used(b, d, w, k, c),
+        Selection::LastName => lookup::named_used(b, names, d, w, k),
+    }
+}
+
 // The first refusal that the rows and names decide, the customer and its last order.
 fn used(b: &[i64], names: &[u8], d: Dims, q: OrderStatus, who: Selection, name: &[u8]) -> Seen
     requires { ⌜ Shaped d (now b) (length (now names)) × StatusAsked d q (whoOf who (now name)) ⌝ }
@@ -139,13 +161,13 @@ fn used(b: &[i64], names: &[u8], d: Dims, q: OrderStatus, who: Selection, name: 
     if !rows::district_used(b, d, q.warehouse, q.district) {
         return refused(9);
     }
-    if !lookup::who_used(b, names, d, q.warehouse, q.district, who, name) {
+    if !who_used(b, names, d, q.warehouse, q.district, who, name) {
         return refused(9);
     }
     if !rows::orders_used(b, d, q.warehouse, q.district) {
         return refused(9);
     }
-    let found = lookup::customer_of(names, d, q.warehouse, q.district, who, name);
+    let found = customer_of(names, d, q.warehouse, q.district, who, name);
     let Found::Customer(c) = found else {
         return refused(10);
     };

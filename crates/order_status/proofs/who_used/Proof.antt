@@ -1,14 +1,13 @@
 use Rattle.lookup.proofs.Who.{number-in}
 use Rattle.model.specs.Used.{whoUsed}
 use Prim.Native.Nat.{_-_}
 use borrow.Author.Needs.{needs}
-use Rattle.lookup.proofs.who_used.Statement.{statement}
-use Rattle.lookup.proofs.who_used.Tie as tie
-use Rattle.lookup.proofs.who_used.Reads as reads
-use Rattle.lookup.proofs.who_used.Lts as lts
-use Rattle.lookup.proofs.names_used.Reads as names-used-reads
+use Rattle.order_status.proofs.who_used.Statement.{statement}
+use Rattle.order_status.proofs.who_used.Tie as tie
+use Rattle.order_status.proofs.who_used.Reads as reads
+use Rattle.order_status.proofs.who_used.Lts as lts
+use Rattle.lookup.proofs.named_used.Reads as named-used-reads
 use Rattle.rows.proofs.customer_used.Reads as customer-used-reads
-use Rattle.rows.proofs.customers_used.Reads as customers-used-reads
 
 -- src/lib.rt:283:27
 enum-known-who : tie.Need-enum-known-who
@@ -23,13 +22,9 @@ customer-used-requires c κs =
 enum-told : tie.Need-enum-told
 enum-told c = search needs
 
--- src/lib.rt:284:32
-customers-used-requires : tie.Need-customers-used-requires
-customers-used-requires c κs = search needs
-
 -- src/lib.rt:284:67
-names-used-requires : tie.Need-names-used-requires
-names-used-requires c κs = search needs
+named-used-requires : tie.Need-named-used-requires
+named-used-requires c κs = search needs
 
 -- src/lib.rt:270:1
 returns : tie.Need-returns
@@ -41,7 +36,7 @@ returns c =
 returns-2 : tie.Need-returns-2
 unfolding whoUsed
 returns-2 c =
-    rw (c .before .before .enum-told .given .1, c .before .customers-used .ensures, c .names-used .ensures)
+    rw (c .before .enum-told .given .1) (c .named-used .ensures)
 
 pub who-used-spec : {M : Type 1} → statement M
 who-used-spec =
@@ -50,7 +45,6 @@ who-used-spec =
     enum-known-who
     customer-used-requires
     enum-told
-    customers-used-requires
-    names-used-requires
+    named-used-requires
     returns
     returns-2)

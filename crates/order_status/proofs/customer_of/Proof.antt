@@ -1,11 +1,11 @@
 use Rattle.model.specs.Names.{customerOf}
 use Prim.Native.Nat.{_-_}
 use borrow.Author.Needs.{needs}
-use Rattle.lookup.proofs.customer_of.Statement.{statement}
-use Rattle.lookup.proofs.customer_of.Tie as tie
-use Rattle.lookup.proofs.customer_of.Reads as reads
-use Rattle.lookup.proofs.customer_of.Lts as lts
+use Rattle.order_status.proofs.customer_of.Statement.{statement}
+use Rattle.order_status.proofs.customer_of.Tie as tie
+use Rattle.order_status.proofs.customer_of.Reads as reads
+use Rattle.order_status.proofs.customer_of.Lts as lts
 use Rattle.lookup.proofs.find.Reads as find-reads
 
 -- src/lib.rt:211:27
 enum-known-who : tie.Need-enum-known-who
