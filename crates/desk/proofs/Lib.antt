@@ -1,0 +1,3 @@
+-- Laws of the crate's code.
+pub mod Filled
+pub mod Telling

@@ -1,0 +1,237 @@
+// The program's desk: its book, one request line answered, and standard input answered line by line.
+ghost use mathlib.Core.Path.{_≡_};
+ghost use mathlib.Core.Bool.{cond};
+ghost use mathlib.Core.List.{_++_};
+ghost use Prim.Native.Nat.{_≤_, _<_};
+ghost use lib.IntN.{pos};
+ghost use lib.ListN.{length, take, drop, replicate};
+ghost use Rattle.model.specs.RequestLine.{readLine};
+ghost use Rattle.model.specs.Request.{after};
+ghost use Rattle.model.specs.AnswerLine.{answerLine, printedFor, leftAfter};
+ghost use Rattle.model.proofs.Listing.{programBook, programNames};
+ghost use Rattle.answers.specs.Writing.{withLine, lengthIf};
+ghost use Rattle.desk.specs.Step.{requestIn, Held, roomy};
+ghost use Rattle.desk.specs.Input.{bookAfter, lineAfter, FedSays};
+ghost use Rattle.desk.specs.Filling.{headTo, districtsTo, pricesTo, stocksTo, twoNames};
+use libc::STDIN_FILENO;
+use libc::STDOUT_FILENO;
+use model::Form;
+use model::LastName;
+use model::Lines;
+use model::OpeningOutcome;
+use model::ReadOutcome;
+
+// Taxes, next order numbers and discounts of the ten districts.
+fn fill_districts(b: &mut [i64])
+    requires { ⌜ 3479 ≤ length (now b) ⌝ }
+    ensures { λ _. ⌜ now (b .exit) ≡ districtsTo 10 (now (b .entry)) ⌝ }
+{
+    let mut k = 0;
+    while k < 10 {
+        b[8 + 3 * k] = 500;
+        b[10 + 3 * k] = 1;
+        b[39 + 12 * k] = 1000;
+        k += 1;
+    }
+}
+
+// What the five stock rows hold.
+fn fill_stocks(b: &mut [i64])
+    requires { ⌜ 3479 ≤ length (now b) ⌝ }
+    ensures { λ _. ⌜ now (b .exit) ≡ stocksTo 5 (now (b .entry)) ⌝ }
+{
+    let mut k = 0;
+    while k < 5 {
+        b[163 + 4 * k] = 20;
+        k += 1;
+    }
+}
+
+// The head and the warehouse's tax.
+fn fill_head(b: &mut [i64])
+    requires { ⌜ 3479 ≤ length (now b) ⌝ }
+    ensures { λ _. ⌜ now (b .exit) ≡ headTo (now (b .entry)) ⌝ }
+{
+    b[0] = 1;
+    b[1] = 2;
+    b[2] = 5;
+    b[3] = 4;
+    b[4] = 8;
+    b[6] = 1000;
+}
+
+// The prices of the five items.
+fn fill_prices(b: &mut [i64])
+    requires { ⌜ 3479 ≤ length (now b) ⌝ }
+    ensures { λ _. ⌜ now (b .exit) ≡ pricesTo (now (b .entry)) ⌝ }
+{
+    b[158] = 100;
+    b[159] = 250;
+    b[160] = 999;
+    b[162] = 1234;
+}
+
+// The program's numbers.
+fn fill_numbers(b: &mut [i64])
+    requires { ⌜ now b ≡ replicate 3479 (pos 0) ⌝ }
+    ensures { λ _. ⌜ now (b .exit) ≡ programBook ⌝ }
+{
+    fill_head(b);
+    fill_districts(b);
+    fill_prices(b);
+    fill_stocks(b);
+}
+
+// The names of a district: ALM, EVA and ALM, BO.
+fn two_names() -> [u8; 64]
+    ensures { λ r. ⌜ r ≡ twoNames ⌝ }
+{
+    *b"ALM             EVA             ALM             BO              "
+}
+
+// The program's names.
+fn fill_names(names: &mut [u8])
+    requires { ⌜ now names ≡ replicate 640 0 ⌝ }
+    ensures { λ _. ⌜ now (names .exit) ≡ programNames ⌝ }
+{
+    let text = two_names();
+    let mut i = 0;
+    while i < 640 {
+        names[i] = text[i % 64];
+        i += 1;
+    }
+}
+
+// A request carried out, and its answer written.
+fn answer(
+    b: &mut [i64],
+    names: &[u8],
+    form: Form,
+    lines: Lines,
+    name: LastName,
+    out: &mut [u8],
+) -> usize
+    requires { ⌜ (2048 ≤ length (now out)) × Held lines name ⌝ }
+    ensures { λ r. ⌜ (r ≡ length (answerLine (now (b .entry)) (now (names .entry)) (requestIn form lines name))) × ((now (out .exit) ≡ answerLine (now (b .entry)) (now (names .entry)) (requestIn form lines name) ++ drop (length (answerLine (now (b .entry)) (now (names .entry)) (requestIn form lines name))) (now (out .entry))) × (now (b .exit) ≡ after (now (b .entry)) (now (names .entry)) (requestIn form lines name))) ⌝ }
+{
+    let n = lines.count as usize;
+    let m = name.length as usize;
+    let items = lines.items;
+    let supplies = lines.supplies;
+    let quantities = lines.quantities;
+    let bytes = name.bytes;
+    let a = engine::carry_out(
+        b,
+        names,
+        form,
+        &items[0..n],
+        &supplies[0..n],
+        &quantities[0..n],
+        &bytes[0..m],
+    );
+    let o = a.outcome;
+    let orders = a.orders;
+    let part = a.part;
+    let from = part.from as usize;
+    let to = (part.from + part.count) as usize;
+    answers::write_answer(out, o, orders, &b[from..to])
+}
+
+// One request line in, one answer out to a buffer of at least 2,048 bytes: its length, or 0 where there is no room and nothing is done.
+pub fn step(b: &mut [i64], names: &[u8], line: &[u8], out: &mut [u8]) -> usize
+    ensures { λ r. ⌜ (r ≡ lengthIf (roomy (now (out .entry))) (printedFor (now (b .entry)) (now (names .entry)) (readLine (now (line .entry))))) × ((now (out .exit) ≡ withLine (roomy (now (out .entry))) (printedFor (now (b .entry)) (now (names .entry)) (readLine (now (line .entry)))) (now (out .entry))) × (now (b .exit) ≡ cond (roomy (now (out .entry))) (leftAfter (now (b .entry)) (now (names .entry)) (readLine (now (line .entry)))) (now (b .entry)))) ⌝ }
+{
+    if out.len() < 2048 {
+        return 0;
+    }
+    let r = lines::read_line(line);
+    let o = r.outcome;
+    match o {
+        ReadOutcome::Request(form) => {
+            let lines = r.lines;
+            let name = r.name;
+            answer(b, names, form, lines, name, out)
+        }
+        ReadOutcome::Refused(_) => answers::write_no_form(out),
+    }
+}
+
+// How far the input is read: the bytes of a line not yet ended, and whether the output still takes answers.
+struct Fed {
+    len: usize,
+    open: bool,
+}
+
+// One line answered; false where the output is closed.
+fn reply(b: &mut [i64], names: &[u8], line: &[u8]) -> bool
+    ensures { λ _. ⌜ now (b .exit) ≡ leftAfter (now (b .entry)) (now (names .entry)) (readLine (now (line .entry))) ⌝ }
+{
+    let mut out = [0u8; 2048];
+    let n = step(b, names, line, &mut out);
+    io::write_all(STDOUT_FILENO, &out[0..n])
+}
+
+// A block of input: each line that it ends is answered. Of an overlong line the first bytes are kept, which have no form.
+fn feed(b: &mut [i64], names: &[u8], line: &mut [u8], len: usize, block: &[u8]) -> Fed
+    requires { ⌜ (length (now line) ≡ 1024) × (len ≤ 1024) ⌝ }
+    ensures { λ r. ⌜ FedSays (r .open) (r .len) (now (b .exit)) (now (line .exit)) (bookAfter (now (b .entry)) (now (names .entry)) (take len (now (line .entry))) (now (block .entry))) (lineAfter (take len (now (line .entry))) (now (block .entry))) ⌝ }
+{
+    let mut n = len;
+    let mut i = 0;
+    while i < block.len() {
+        let x = block[i];
+        if n < line.len() {
+            line[n] = x;
+            n += 1;
+        }
+        if x == 10 {
+            if !reply(b, names, &line[0..n]) {
+                return Fed {
+                    len: 0,
+                    open: false,
+                };
+            }
+            n = 0;
+        }
+        i += 1;
+    }
+    Fed { len: n, open: true }
+}
+
+// Standard input answered line by line, until it ends or the output is closed.
+fn serve(b: &mut [i64], names: &[u8]) {
+    let mut block = [0u8; 4096];
+    let mut line = [0u8; 1024];
+    let mut len: usize = 0;
+    let mut turns = u64::MAX;
+    while turns > 0 {
+        let got = libc::read(STDIN_FILENO, &mut block);
+        let n = io::count(got, &block);
+        if n == 0 {
+            if 0 < len {
+                reply(b, names, &line[0..len]);
+            }
+            return;
+        }
+        let fed = feed(b, names, &mut line, len, &block[0..n]);
+        if !fed.open {
+            return;
+        }
+        len = fed.len;
+        turns -= 1;
+    }
+}
+
+// The program: its book, opened, and standard input answered on it.
+pub fn run() {
+    let mut b = [0i64; 3479];
+    let mut names = [0u8; 640];
+    fill_numbers(&mut b);
+    fill_names(&mut names);
+    let a = opening::opening(&b, &names);
+    let o = a.outcome;
+    match o {
+        OpeningOutcome::Accepted => serve(&mut b, &names),
+        OpeningOutcome::Refused(_) => {}
+    }
+}
