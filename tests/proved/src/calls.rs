@@ -7,14 +7,6 @@ use second::{
     StockLevel, StockLevelFigures, Who,
 };
 
-/// A line as the call takes it.
-#[repr(C)]
-struct BookLine {
-    item: u64,
-    supply: u64,
-    quantity: u64,
-}
-
 extern "C" {
     fn book_opening(nums: *const i64, nums_len: usize, names: *const u8, names_len: usize, out: *mut u64);
     fn book_new_order(
@@ -26,7 +18,7 @@ extern "C" {
         district: u64,
         customer: u64,
         date: u64,
-        lines: *const BookLine,
+        lines: *const Line,
         lines_len: usize,
         out: *mut u64,
     );
@@ -104,10 +96,6 @@ fn who(who: &Who) -> (bool, u64, &[u8]) {
     }
 }
 
-fn book_line(line: &Line) -> BookLine {
-    BookLine { item: line.item, supply: line.supply_warehouse, quantity: line.quantity }
-}
-
 impl Engine for ProvedEngine {
     fn open(&mut self, lent: &Lent) -> Outcome<()> {
         let mut out = [0; 2];
@@ -119,7 +107,6 @@ impl Engine for ProvedEngine {
     }
 
     fn new_order(&mut self, lent: &mut Lent, request: &NewOrder) -> Outcome<NewOrderFigures> {
-        let lines: Vec<BookLine> = request.lines.iter().map(book_line).collect();
         let mut out = [0; 4];
         unsafe {
             book_new_order(
@@ -131,8 +118,8 @@ impl Engine for ProvedEngine {
                 request.district,
                 request.customer,
                 request.date,
-                lines.as_ptr(),
-                lines.len(),
+                request.lines.as_ptr(),
+                request.lines.len(),
                 out.as_mut_ptr(),
             );
         }

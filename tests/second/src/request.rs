@@ -1,7 +1,8 @@
 //! The five requests. Their numbers are unsigned 64-bit and may be anything.
 
-/// One line of an order to be placed.
+/// One line of an order to be placed, laid out as the `book_line` of include/book.h.
 #[derive(Debug, Clone, Copy, PartialEq, Eq)]
+#[repr(C)]
 pub struct Line {
     pub item: u64,
     pub supply_warehouse: u64,
