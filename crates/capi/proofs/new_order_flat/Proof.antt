@@ -1,4 +1,4 @@
-use mathlib.Core.Path.{_∙_, ap, sym}
+use mathlib.Core.Path.{_∙_, ap}
 use Rattle.capi.specs.Flat.{twoOut}
 use borrow.Author.Needs.{needs}
 use Rattle.capi.proofs.new_order_flat.Statement.{statement}
