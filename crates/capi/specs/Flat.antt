@@ -4,7 +4,7 @@ use mathlib.Core.Bool.{Bool, true, false, cond}
 use mathlib.Core.List.{List, [], _∷_}
 use Prim.Native.Nat.{ℕ}
 use lib.IntN.{ℤ, pos}
-use lib.ListN.{getD, take, drop}
+use lib.ListN.{getD}
 use Rattle.model.specs.declared.Selection.{Selection}
 use Rattle.model.specs.declared.Selection.the-variants.{Number, LastName}
 use Rattle.model.specs.declared.Payment.{Payment}
@@ -14,6 +14,7 @@ use Rattle.model.specs.declared.OrderStatus.{OrderStatus}
 use Rattle.model.specs.declared.StockLevel.{StockLevel}
 use Rattle.model.specs.Numbers.{nat}
 use Rattle.model.specs.Answer.{Answer, committed, refused}
+use Rattle.model.specs.Request.{partOf}
 
 abbrev pub numberIn : Answer → ℕ
 numberIn (committed figures) = 0
@@ -50,7 +51,7 @@ statusOut a from count =
 
 -- the part of a book that the two last numbers name
 abbrev pub partIn : List ℕ → List ℤ → List ℤ
-partIn out b = take (getD out 7 0) (drop (getD out 6 0) b)
+partIn out b = partOf (record { from = getD out 6 0; count = getD out 7 0 }) b
 
 -- who: by the last name, or by the number
 abbrev pub selectionOf : Bool → ℕ → Selection

@@ -1,5 +1,6 @@
 // The calls for C and Rust: slices as pointer and length, answers as flat numbers that the caller lends.
 ghost use mathlib.Core.Path.{_≡_};
+ghost use mathlib.Core.List.{[]};
 ghost use Rattle.model.specs.Names.{whoOf};
 ghost use Rattle.model.specs.Answer.{openingSays, newOrderSays, paymentSays, deliverySays, statusSays, stockLevelSays};
 ghost use Rattle.model.specs.Opening.{openingAnswer};
@@ -11,19 +12,28 @@ ghost use Rattle.model.specs.StockLevel.{stockLevelAnswer};
 ghost use Prim.Native.Nat.{_+_, _≤_};
 ghost use lib.ListN.{length, getD, take};
 ghost use Rattle.capi.specs.Flat.{bareOut, oneOut, twoOut, balanceOut, statusOut, partIn, selectionOf, newOrderOf, paymentOf, deliveryOf, statusOf, stockLevelOf};
-ghost use Rattle.model.specs.Request.{linesOf};
+ghost use Rattle.model.specs.Request.{requestOf, newOrder, payment, delivery, orderStatus, stockLevel, linesOf};
+ghost use Rattle.model.specs.RequestLine.{readLine, stored, writeSays, writeAnswer, writeBuffer};
+ghost use Rattle.model.specs.declared.Form.the-variants as Form;
+ghost use Rattle.new_order.specs.Gathering.{linesHeld};
+ghost use Rattle.capi.specs.FlatLines.{namedOut, numberOut, formOut, readOut};
 use model::Delivery;
 use model::DeliveryOutcome;
+use model::Form;
+use model::Line;
 use model::NewOrder;
 use model::NewOrderOutcome;
 use model::OpeningOutcome;
 use model::OrderStatus;
 use model::Payment;
 use model::PaymentOutcome;
+use model::ReadOutcome;
 use model::Selection;
 use model::StatusOutcome;
 use model::StockLevel;
 use model::StockLevelOutcome;
+use model::WriteOutcome;
+use new_order::Gathered;
 
 // Who: by the last name that is lent beside, or by the number.
 pub fn selection(named: bool, number: u64) -> Selection
@@ -65,7 +75,31 @@ pub fn new_order_out(o: NewOrderOutcome) -> [u64; 4]
     }
 }
 
-// New-Order; line i is entry i of items, supplies and quantities, and there are as many as the shortest has entries.
+// New-Order, its lines by value.
+pub fn new_order_flat(
+    nums: &mut [i64],
+    names: &[u8],
+    warehouse: u64,
+    district: u64,
+    customer: u64,
+    date: u64,
+    g: Gathered,
+    out: &mut [u64; 4],
+)
+    ensures { λ _. ⌜ (now (out .exit) ≡ twoOut (newOrderAnswer (now (nums .entry)) (now (names .entry)) (newOrderOf warehouse district customer date) (linesHeld g))) × (now (nums .exit) ≡ newOrderBook (now (nums .entry)) (now (names .entry)) (newOrderOf warehouse district customer date) (linesHeld g)) ⌝ }
+{
+    let q = NewOrder {
+        warehouse,
+        district,
+        customer,
+        date,
+    };
+    let a = new_order::new_order_of(nums, names, q, g);
+    let o = a.outcome;
+    *out = new_order_out(o);
+}
+
+// New-Order; the lines are a lent slice of records of any length.
 #[no_mangle]
 pub extern "C" fn book_new_order(
     nums: &mut [i64],
@@ -74,22 +108,13 @@ pub extern "C" fn book_new_order(
     district: u64,
     customer: u64,
     date: u64,
-    items: &[u64],
-    supplies: &[u64],
-    quantities: &[u64],
+    lines: &[Line],
     out: &mut [u64; 4],
 )
-    ensures { λ _. ⌜ (now (out .exit) ≡ twoOut (newOrderAnswer (now (nums .entry)) (now (names .entry)) (newOrderOf warehouse district customer date) (linesOf (now (items .entry)) (now (supplies .entry)) (now (quantities .entry))))) × (now (nums .exit) ≡ newOrderBook (now (nums .entry)) (now (names .entry)) (newOrderOf warehouse district customer date) (linesOf (now (items .entry)) (now (supplies .entry)) (now (quantities .entry)))) ⌝ }
+    ensures { λ _. ⌜ (now (out .exit) ≡ twoOut (newOrderAnswer (now (nums .entry)) (now (names .entry)) (newOrderOf warehouse district customer date) (now (lines .entry)))) × (now (nums .exit) ≡ newOrderBook (now (nums .entry)) (now (names .entry)) (newOrderOf warehouse district customer date) (now (lines .entry))) ⌝ }
 {
-    let q = NewOrder {
-        warehouse,
-        district,
-        customer,
-        date,
-    };
-    let a = new_order::new_order(nums, names, q, items, supplies, quantities);
-    let o = a.outcome;
-    *out = new_order_out(o);
+    let g = new_order::gather(lines);
+    new_order_flat(nums, names, warehouse, district, customer, date, g, out)
 }
 
 // Payment's answer: number, detail, customer.
@@ -221,8 +246,9 @@ pub extern "C" fn book_order_status(
         district,
     };
     let who = selection(named, number);
-    let o = order_status::status_outcome(nums, names, q, who, name);
-    let part = order_status::status_part(nums, names, q, who, name);
+    let s = order_status::status_shown(nums, names, q, who, name);
+    let o = s.outcome;
+    let part = s.part;
     *out = status_out(o, part.from, part.count);
     *balance = status_balance(o);
 }
@@ -257,4 +283,302 @@ pub extern "C" fn book_stock_level(
     let a = stock_level::stock_level(nums, names, q);
     let o = a.outcome;
     *out = stock_level_out(o);
+}
+
+// 1 where who is given by the last name, else 0.
+pub fn named_out(s: Selection) -> u64
+    ensures { λ r. ⌜ r ≡ namedOut s ⌝ }
+{
+    match s {
+        Selection::Number(_) => 0,
+        Selection::LastName => 1,
+    }
+}
+
+// The customer number that who is given by, 0 where by the last name.
+pub fn number_out(s: Selection) -> u64
+    ensures { λ r. ⌜ r ≡ numberOut s ⌝ }
+{
+    match s {
+        Selection::Number(c) => c,
+        Selection::LastName => 0,
+    }
+}
+
+// A Payment that was read.
+pub fn payment_form(q: Payment, who: Selection, count: u64, length: u64) -> [u64; 13]
+    ensures { λ r. ⌜ r ≡ formOut (Form.Payment q who) count length ⌝ }
+{
+    let named = named_out(who);
+    let number = number_out(who);
+    [
+        0,
+        0,
+        80,
+        q.warehouse,
+        q.district,
+        q.custwarehouse,
+        q.custdistrict,
+        q.date,
+        q.amount,
+        named,
+        number,
+        count,
+        length,
+    ]
+}
+
+// An Order-Status that was read.
+pub fn status_form(q: OrderStatus, who: Selection, count: u64, length: u64) -> [u64; 13]
+    ensures { λ r. ⌜ r ≡ formOut (Form.OrderStatus q who) count length ⌝ }
+{
+    let named = named_out(who);
+    let number = number_out(who);
+    [
+        0,
+        0,
+        83,
+        q.warehouse,
+        q.district,
+        0,
+        0,
+        0,
+        0,
+        named,
+        number,
+        count,
+        length,
+    ]
+}
+
+// A request that was read: its letter, its numbers but who, whether by name, the customer number, how many lines, how long the name.
+pub fn form_out(form: Form, count: u64, length: u64) -> [u64; 13]
+    ensures { λ r. ⌜ r ≡ formOut form count length ⌝ }
+{
+    match form {
+        Form::NewOrder(q) => [
+            0,
+            0,
+            78,
+            q.warehouse,
+            q.district,
+            q.customer,
+            q.date,
+            0,
+            0,
+            0,
+            0,
+            count,
+            length,
+        ],
+        Form::Payment(q, who) => payment_form(q, who, count, length),
+        Form::Delivery(q) => [
+            0,
+            0,
+            68,
+            q.warehouse,
+            q.carrier,
+            q.date,
+            0,
+            0,
+            0,
+            0,
+            0,
+            count,
+            length,
+        ],
+        Form::OrderStatus(q, who) => status_form(q, who, count, length),
+        Form::StockLevel(q) => [
+            0,
+            0,
+            76,
+            q.warehouse,
+            q.district,
+            q.threshold,
+            0,
+            0,
+            0,
+            0,
+            0,
+            count,
+            length,
+        ],
+    }
+}
+
+// What reading answers.
+pub fn read_out(o: ReadOutcome, count: u64, length: u64) -> [u64; 13]
+    ensures { λ r. ⌜ r ≡ readOut o count length ⌝ }
+{
+    match o {
+        ReadOutcome::Request(form) => form_out(form, count, length),
+        ReadOutcome::Refused(r) => [r.number, r.detail, 0, 0, 0, 0, 0, 0, 0, 0, 0, count, length],
+    }
+}
+
+// A request line read; the order's lines and the last name go to arrays of their own, 0 where they have no part in the request.
+#[no_mangle]
+pub extern "C" fn book_read_line(
+    line: &[u8],
+    out: &mut [u64; 13],
+    items: &mut [u64; 15],
+    supplies: &mut [u64; 15],
+    quantities: &mut [u64; 15],
+    name: &mut [u8; 16],
+)
+    ensures { λ _. ⌜ (now (out .exit) ≡ readOut (stored (readLine (now (line .entry))) .outcome) (stored (readLine (now (line .entry))) .lines .count) (stored (readLine (now (line .entry))) .name .length)) × ((now (items .exit) ≡ stored (readLine (now (line .entry))) .lines .items) × ((now (supplies .exit) ≡ stored (readLine (now (line .entry))) .lines .supplies) × ((now (quantities .exit) ≡ stored (readLine (now (line .entry))) .lines .quantities) × (now (name .exit) ≡ stored (readLine (now (line .entry))) .name .bytes)))) ⌝ }
+{
+    let a = lines::read_line(line);
+    let o = a.outcome;
+    let l = a.lines;
+    let n = a.name;
+    *out = read_out(o, l.count, n.length);
+    let is = l.items;
+    *items = is;
+    let ss = l.supplies;
+    *supplies = ss;
+    let qs = l.quantities;
+    *quantities = qs;
+    let bytes = n.bytes;
+    *name = bytes;
+}
+
+// What writing answers: number, detail, length.
+pub fn write_out(o: WriteOutcome) -> [u64; 3]
+    ensures { λ r. ⌜ r ≡ oneOut (writeSays o) ⌝ }
+{
+    match o {
+        WriteOutcome::Written(n) => [0, 0, n],
+        WriteOutcome::Refused(r) => [r.number, r.detail, 0],
+    }
+}
+
+// A New-Order's line written to the front of a buffer.
+#[no_mangle]
+pub extern "C" fn book_write_new_order(
+    buffer: &mut [u8],
+    warehouse: u64,
+    district: u64,
+    customer: u64,
+    date: u64,
+    items: &[u64],
+    supplies: &[u64],
+    quantities: &[u64],
+    out: &mut [u64; 3],
+)
+    ensures { λ _. ⌜ (now (out .exit) ≡ oneOut (writeAnswer (now (buffer .entry)) (newOrder (newOrderOf warehouse district customer date) (linesOf (now (items .entry)) (now (supplies .entry)) (now (quantities .entry)))))) × (now (buffer .exit) ≡ writeBuffer (now (buffer .entry)) (newOrder (newOrderOf warehouse district customer date) (linesOf (now (items .entry)) (now (supplies .entry)) (now (quantities .entry))))) ⌝ }
+{
+    let form = Form::NewOrder(NewOrder {
+        warehouse,
+        district,
+        customer,
+        date,
+    });
+    let none = [0u8; 1];
+    let a = writing::write_line(buffer, form, items, supplies, quantities, &none[0..0]);
+    let o = a.outcome;
+    *out = write_out(o);
+}
+
+// A request without lines written: its form, and the last name beside it.
+fn write_bare(buffer: &mut [u8], form: Form, name: &[u8]) -> [u64; 3]
+    ensures { λ r. ⌜ (r ≡ oneOut (writeAnswer (now (buffer .entry)) (requestOf form [] (now (name .entry))))) × (now (buffer .exit) ≡ writeBuffer (now (buffer .entry)) (requestOf form [] (now (name .entry)))) ⌝ }
+{
+    let none = [0u64; 1];
+    let empty = &none[0..0];
+    let a = writing::write_line(buffer, form, empty, empty, empty, name);
+    let o = a.outcome;
+    write_out(o)
+}
+
+// A Payment's line written to the front of a buffer.
+#[no_mangle]
+pub extern "C" fn book_write_payment(
+    buffer: &mut [u8],
+    warehouse: u64,
+    district: u64,
+    custwarehouse: u64,
+    custdistrict: u64,
+    named: bool,
+    number: u64,
+    name: &[u8],
+    date: u64,
+    amount: u64,
+    out: &mut [u64; 3],
+)
+    ensures { λ _. ⌜ (now (out .exit) ≡ oneOut (writeAnswer (now (buffer .entry)) (payment (paymentOf warehouse district custwarehouse custdistrict date amount) (whoOf (selectionOf named number) (now (name .entry)))))) × (now (buffer .exit) ≡ writeBuffer (now (buffer .entry)) (payment (paymentOf warehouse district custwarehouse custdistrict date amount) (whoOf (selectionOf named number) (now (name .entry))))) ⌝ }
+{
+    let q = Payment {
+        warehouse,
+        district,
+        custwarehouse,
+        custdistrict,
+        date,
+        amount,
+    };
+    let who = selection(named, number);
+    let form = Form::Payment(q, who);
+    *out = write_bare(buffer, form, name);
+}
+
+// A Delivery's line written to the front of a buffer.
+#[no_mangle]
+pub extern "C" fn book_write_delivery(
+    buffer: &mut [u8],
+    warehouse: u64,
+    carrier: u64,
+    date: u64,
+    out: &mut [u64; 3],
+)
+    ensures { λ _. ⌜ (now (out .exit) ≡ oneOut (writeAnswer (now (buffer .entry)) (delivery (deliveryOf warehouse carrier date)))) × (now (buffer .exit) ≡ writeBuffer (now (buffer .entry)) (delivery (deliveryOf warehouse carrier date))) ⌝ }
+{
+    let form = Form::Delivery(Delivery {
+        warehouse,
+        carrier,
+        date,
+    });
+    let none = [0u8; 1];
+    *out = write_bare(buffer, form, &none[0..0]);
+}
+
+// An Order-Status's line written to the front of a buffer.
+#[no_mangle]
+pub extern "C" fn book_write_order_status(
+    buffer: &mut [u8],
+    warehouse: u64,
+    district: u64,
+    named: bool,
+    number: u64,
+    name: &[u8],
+    out: &mut [u64; 3],
+)
+    ensures { λ _. ⌜ (now (out .exit) ≡ oneOut (writeAnswer (now (buffer .entry)) (orderStatus (statusOf warehouse district) (whoOf (selectionOf named number) (now (name .entry)))))) × (now (buffer .exit) ≡ writeBuffer (now (buffer .entry)) (orderStatus (statusOf warehouse district) (whoOf (selectionOf named number) (now (name .entry))))) ⌝ }
+{
+    let q = OrderStatus {
+        warehouse,
+        district,
+    };
+    let who = selection(named, number);
+    let form = Form::OrderStatus(q, who);
+    *out = write_bare(buffer, form, name);
+}
+
+// A Stock-Level's line written to the front of a buffer.
+#[no_mangle]
+pub extern "C" fn book_write_stock_level(
+    buffer: &mut [u8],
+    warehouse: u64,
+    district: u64,
+    threshold: u64,
+    out: &mut [u64; 3],
+)
+    ensures { λ _. ⌜ (now (out .exit) ≡ oneOut (writeAnswer (now (buffer .entry)) (stockLevel (stockLevelOf warehouse district threshold)))) × (now (buffer .exit) ≡ writeBuffer (now (buffer .entry)) (stockLevel (stockLevelOf warehouse district threshold))) ⌝ }
+{
+    let form = Form::StockLevel(StockLevel {
+        warehouse,
+        district,
+        threshold,
+    });
+    let none = [0u8; 1];
+    *out = write_bare(buffer, form, &none[0..0]);
 }

@@ -25,7 +25,7 @@ fn new_order(
 ) -> RequestAnswer
     ensures { λ r. ⌜ Carried (now (b .entry)) (now (names .entry)) (newOrder q (linesOf (now (items .entry)) (now (supplies .entry)) (now (quantities .entry)))) r (now (b .exit)) ⌝ }
 {
-    let a = new_order::new_order(b, names, q, items, supplies, quantities);
+    let a = new_order::new_order_split(b, names, q, items, supplies, quantities);
     let o = a.outcome;
     let outcome = RequestOutcome::NewOrder(o);
     let orders = [0u64; 10];
@@ -79,10 +79,11 @@ fn order_status(
 ) -> RequestAnswer
     ensures { λ r. ⌜ Carried (now (b .entry)) (now (names .entry)) (orderStatus q (whoOf who (now (name .entry)))) r (now (b .entry)) ⌝ }
 {
-    let o = order_status::status_outcome(b, names, q, who, name);
-    let part = order_status::status_part(b, names, q, who, name);
+    let a = order_status::status_shown(b, names, q, who, name);
+    let o = a.outcome;
     let outcome = RequestOutcome::OrderStatus(o);
     let orders = [0u64; 10];
+    let part = a.part;
     RequestAnswer {
         outcome,
         orders,

@@ -3,4 +3,3 @@ pub mod Walk
 pub mod Forms
 pub mod Whos
 pub mod WhoForms
-pub mod Putting

@@ -1,3 +1,2 @@
 -- What the contracts of the crate cite beside the model.
 pub mod Fields
-pub mod Writing

@@ -1,13 +1,13 @@
 ghost use mathlib.Core.Path.{_≡_};
 ghost use mathlib.Core.Bool.{true, _&&_, cond};
-ghost use mathlib.Core.List.{_∷_, _++_};
+ghost use mathlib.Core.List.{[], _∷_, _++_};
 ghost use Prim.Native.Nat.{_+_, _-_, _*_, _≤_, _<_};
 ghost use lib.Dec.{leb};
 ghost use lib.ListN.{length, take, drop};
 ghost use Rattle.model.specs.Tests.{every, allTo};
 ghost use Rattle.model.specs.Layout.{nameBytes};
-ghost use Rattle.model.specs.Names.{namePlace, nameAt, nameOk, padded, compareNames, insert, sorted, passing, found, whoOf, customerOf, whoTests};
-ghost use Rattle.model.specs.Used.{namesUsed, whoUsed};
+ghost use Rattle.model.specs.Names.{namePlace, nameAt, nameOk, padded, compareNames, insert, sorted, passing, found, whoOf, whoTests};
+ghost use Rattle.model.specs.Used.{customersUsed, namesUsed};
 ghost use Rattle.model.specs.Claim.{R};
 ghost use Rattle.model.proofs.Fields.{Dimensioned};
 ghost use Rattle.rows.specs.Book.{Booked};
@@ -203,17 +203,6 @@ pub fn find(names: &[u8], d: Dims, w: u64, k: u64, name: &[u8]) -> Found
     Found::Customer(list[(place - 1) as usize])
 }
 
-// The customer that a request names, by number or by last name.
-pub fn customer_of(names: &[u8], d: Dims, w: u64, k: u64, who: Selection, name: &[u8]) -> Found
-    requires { ⌜ Dimensioned d × (R (d .warehouses) w × (R 10 k × (length (now names) ≡ nameBytes d))) ⌝ }
-    ensures { λ r. ⌜ r ≡ customerOf d (now (names .entry)) w k (whoOf who (now (name .entry))) ⌝ }
-{
-    match who {
-        Selection::Number(c) => Found::Customer(c),
-        Selection::LastName => find(names, d, w, k, name),
-    }
-}
-
 // A byte that a name may have.
 fn byte_ok(x: u8) -> bool
     ensures { λ r. ⌜ r ≡ (leb 32 x && leb x 126) ⌝ }
@@ -266,21 +255,10 @@ pub fn who_ok(d: Dims, who: Selection, name: &[u8]) -> bool
     }
 }
 
-// The row of a customer given by number is in range, or by last name all rows and names of the district's customers.
-pub fn who_used(
-    b: &[i64],
-    names: &[u8],
-    d: Dims,
-    w: u64,
-    k: u64,
-    who: Selection,
-    name: &[u8],
-) -> bool
-    requires { ⌜ Booked d (now b) × (R (d .warehouses) w × (R 10 k × ((length (now names) ≡ nameBytes d) × (every (whoTests d (whoOf who (now name))) ≡ true)))) ⌝ }
-    ensures { λ r. ⌜ r ≡ whoUsed d (now (b .entry)) (now (names .entry)) w k (whoOf who (now (name .entry))) ⌝ }
+// What a search by name uses: the rows and names of all customers of a district are in range.
+pub fn named_used(b: &[i64], names: &[u8], d: Dims, w: u64, k: u64) -> bool
+    requires { ⌜ Booked d (now b) × (R (d .warehouses) w × (R 10 k × (length (now names) ≡ nameBytes d))) ⌝ }
+    ensures { λ r. ⌜ r ≡ every (customersUsed d (now (b .entry)) w k ∷ namesUsed d (now (names .entry)) w k ∷ []) ⌝ }
 {
-    match who {
-        Selection::Number(c) => rows::customer_used(b, d, w, k, c),
-        Selection::LastName => rows::customers_used(b, d, w, k) & names_used(names, d, w, k),
-    }
+    rows::customers_used(b, d, w, k) & names_used(names, d, w, k)
 }

@@ -1,11 +1,15 @@
--- The program's book of document 01: opening accepts it, and its seven lines are answered as listed. So demand 3 speaks of something.
+-- The program's book of document 01: opening accepts it, and its seven lines print what the paper lists. So demand 3 speaks of something.
 -- Assumes nothing.
 use mathlib.Core.Path.{_≡_, refl}
+use mathlib.Core.Bool.{cond}
 use mathlib.Core.List.{List, [], _∷_, _++_}
 use Prim.Native.Nat.{ℕ, zero, suc}
+use Prim.Native.Char.{code}
+use Prim.Native.String.{String, [] as none, _∷_ as _then_}
 use lib.Count.{ones}
-use lib.IntN.{ℤ, pos, negsuc}
-use lib.ListN.{length, replicate, take}
+use lib.Dec.{eqb}
+use lib.IntN.{ℤ, pos}
+use lib.ListN.{length, replicate}
 use Rattle.model.specs.Tests.{allTo}
 use Rattle.model.specs.Numbers.{nat, cell, balanceOk}
 use Rattle.model.specs.Layout.{numbers, nameBytes, inside, place}
@@ -13,17 +17,17 @@ use Rattle.model.specs.Store.{get, remap, op}
 use Rattle.model.specs.Lists.{upTo, sumOf, lowest, largest}
 use Rattle.model.specs.Rows.{warehouseTests, districtTests, customerTests, itemTests, stockTests, slot, orderTests, lineTests, orderOk}
 use Rattle.model.specs.Head.{dims, dimsTests, sizeTests, headOk}
-use Rattle.model.specs.Names.{byNumber, byName, namePlace, lastName, firstName, nameOk, padded, compareNames, named, before, namesakes, found, customerOf}
+use Rattle.model.specs.Names.{namePlace, lastName, firstName, nameOk, padded, compareNames, named, before, namesakes, found, customerOf}
 use Rattle.model.specs.Used.{warehouseUsed, districtUsed, customerUsed, itemUsed, stockUsed, orderUsed, customersUsed, namesUsed, ordersUsed, whoUsed, lineUsed}
-use Rattle.model.specs.Answer.{Answer, committed, refused}
 use Rattle.model.specs.Opening.{newWarehouse, newDistrict, newCustomer, newStock, districtNew, warehouseNew, bookNew, openingFault}
 use Rattle.model.specs.NewOrder.{newAsked, priceOf, orderable, newUsed, newOrderFault, restock, newOrderCommit, orderTotal, newOrderTotal, newOrderAnswer, newOrderBook}
 use Rattle.model.specs.Payment.{payAsked, payUsed, paymentFault, payer, paymentCommit, paidBalance, paymentAnswer, paymentBook}
 use Rattle.model.specs.Delivery.{deliveryAsked, deliverable, deliveryUsed, deliveryFault, waits, oldest, lineAmounts, deliverOrder, deliverDistrict, deliverTo, deliveryCommit, oldestTen, deliveryAnswer, deliveryOrders, deliveryBook}
 use Rattle.model.specs.OrderStatus.{statusAsked, statusUsed, statusFault, lastOrder, statusCustomer, statusOrder, orderShown, linesShown, statusAnswer, statusLines}
 use Rattle.model.specs.StockLevel.{windowFirst, windowCount, levelAsked, windowUsed, levelUsed, stockLevelFault, lineItems, windowItems, isLow, lowItems, stockLevelAnswer}
-use Rattle.model.specs.Tally.{afterAll}
-use Rattle.model.specs.Request.{Request, newOrder, payment, delivery, orderStatus, stockLevel, answerOf, after}
+use Rattle.model.specs.Request.{answerOf, ordersOf, shownOf, after}
+use Rattle.model.specs.RequestLine.{isNumber, valueOf, isName, isWho, whoRead, parted, linesRead, readNewOrder, readPayment, readDelivery, readOrderStatus, readStockLevel, readFields, readLine}
+use Rattle.model.specs.AnswerLine.{decimals, signed, textOf, answerLine, noFormLine, printedFor, leftAfter}
 
 abbrev times : {A : Type 0} → ℕ → List A → List A
 times zero xs = []
@@ -47,21 +51,18 @@ abbrev pub programNames : List ℕ
 programNames =
     times 10 ((65 ∷ 76 ∷ 77 ∷ replicate 13 32) ++ (69 ∷ 86 ∷ 65 ∷ replicate 13 32) ++ (65 ∷ 76 ∷ 77 ∷ replicate 13 32) ++ (66 ∷ 79 ∷ replicate 14 32))
 
--- the seven lines
-abbrev pub programLines : List Request
-programLines =
-    newOrder (record { warehouse = 1; district = 1; customer = 1; date = 100 }) (record { item = 1; supply = 1; quantity = 10 } ∷ record { item = 2; supply = 1; quantity = 3 } ∷ [])
-    ∷ newOrder (record { warehouse = 1; district = 1; customer = 1; date = 101 }) (record { item = 1; supply = 1; quantity = 1 } ∷ record { item = 4; supply = 1; quantity = 1 } ∷ [])
-    ∷ newOrder (record { warehouse = 1; district = 1; customer = 2; date = 102 }) (record { item = 1; supply = 1; quantity = 1 } ∷ [])
-    ∷ delivery (record { warehouse = 1; carrier = 3; date = 200 })
-    ∷ payment (record { warehouse = 1; district = 1; custwarehouse = 1; custdistrict = 1; date = 201; amount = 500 }) (byName (65 ∷ 76 ∷ 77 ∷ []))
-    ∷ orderStatus (record { warehouse = 1; district = 1 }) (byNumber 1)
-    ∷ stockLevel (record { warehouse = 1; district = 1; threshold = 18 })
-    ∷ []
+-- a line of the paper, in which each space stands for a tab, as bytes
+abbrev bytes : String → List ℕ
+bytes none = []
+bytes (c then s) = cond (eqb (code c) 32) 9 (code c) ∷ bytes s
 
-abbrev pub answers : List ℤ → List ℕ → List Request → List Answer
-answers b names [] = []
-answers b names (r ∷ rs) = answerOf b names r ∷ answers (after b names r) names rs
+abbrev lines : List String → List (List ℕ)
+lines [] = []
+lines (s ∷ ss) = (bytes s ++ (10 ∷ [])) ∷ lines ss
+
+abbrev answered : List ℤ → List (List ℕ) → List (List ℕ)
+answered b [] = []
+answered b (s ∷ ss) = printedFor b programNames (readLine s) ∷ answered (leftAfter b programNames (readLine s)) ss
 
 pub lengths : (length programBook ∷ length programNames ∷ []) ≡ 3479 ∷ 640 ∷ []
 lengths = refl
@@ -70,26 +71,22 @@ pub accepted : openingFault programBook programNames .number ≡ 0
 unfolding openingFault headOk dims cell nat dimsTests sizeTests numbers nameBytes bookNew warehouseNew districtNew newWarehouse newDistrict newCustomer newStock namesUsed nameOk namePlace itemUsed itemTests get place inside allTo
 accepted = refl
 
--- the mark of a Delivery that skips districts 2 to 10 is 1022
-pub listing : answers programBook programNames programLines
-    ≡ committed (pos 1 ∷ pos 1811 ∷ [])
-    ∷ refused (record { number = 12; detail = 2 })
-    ∷ committed (pos 2 ∷ pos 115 ∷ [])
-    ∷ committed (pos 9 ∷ pos 1022 ∷ [])
-    ∷ committed (pos 2 ∷ negsuc 499 ∷ [])
-    ∷ committed (pos 1 ∷ pos 1750 ∷ pos 1 ∷ pos 100 ∷ pos 3 ∷ [])
-    ∷ committed (pos 1 ∷ [])
-    ∷ []
-unfolding allTo nat cell balanceOk numbers nameBytes inside place get remap op upTo sumOf lowest largest warehouseTests districtTests customerTests itemTests stockTests slot orderTests lineTests orderOk dims dimsTests sizeTests headOk namePlace lastName firstName nameOk padded compareNames named before namesakes found customerOf warehouseUsed districtUsed customerUsed itemUsed stockUsed orderUsed customersUsed namesUsed ordersUsed whoUsed lineUsed newAsked priceOf orderable newUsed newOrderFault restock newOrderCommit orderTotal newOrderTotal newOrderAnswer newOrderBook payAsked payUsed paymentFault payer paymentCommit paidBalance paymentAnswer paymentBook deliveryAsked deliverable deliveryUsed deliveryFault waits oldest lineAmounts deliverOrder deliverDistrict deliverTo deliveryCommit oldestTen deliveryAnswer deliveryBook statusAsked statusUsed statusFault lastOrder statusCustomer statusOrder orderShown statusAnswer windowFirst windowCount levelAsked windowUsed levelUsed stockLevelFault lineItems windowItems isLow lowItems stockLevelAnswer answerOf after ones
+-- the listing of document 01
+pub listing : answered programBook (lines (
+    "N 1 1 1 100 1 1 10 2 1 3" ∷
+    "N 1 1 1 101 1 1 1 4 1 1" ∷
+    "N 1 1 2 102 1 1 1" ∷
+    "D 1 3 200" ∷
+    "P 1 1 1 1 =ALM 201 500" ∷
+    "S 1 1 #1" ∷
+    "L 1 1 18" ∷ []))
+    ≡ lines (
+    "N 0 1 1811" ∷
+    "N 12 2" ∷
+    "N 0 2 115" ∷
+    "D 0 9 1 0 0 0 0 0 0 0 0 0" ∷
+    "P 0 2 -500" ∷
+    "S 0 1 1750 1 100 3 1 1 10 1000 200 2 1 3 750 200" ∷
+    "L 0 1" ∷ [])
+unfolding allTo nat cell balanceOk numbers nameBytes inside place get remap op upTo sumOf lowest largest warehouseTests districtTests customerTests itemTests stockTests slot orderTests lineTests orderOk dims dimsTests sizeTests headOk namePlace lastName firstName nameOk padded compareNames named before namesakes found customerOf warehouseUsed districtUsed customerUsed itemUsed stockUsed orderUsed customersUsed namesUsed ordersUsed whoUsed lineUsed newAsked priceOf orderable newUsed newOrderFault restock newOrderCommit orderTotal newOrderTotal newOrderAnswer newOrderBook payAsked payUsed paymentFault payer paymentCommit paidBalance paymentAnswer paymentBook deliveryAsked deliverable deliveryUsed deliveryFault waits oldest lineAmounts deliverOrder deliverDistrict deliverTo deliveryCommit oldestTen deliveryAnswer deliveryBook statusAsked statusUsed statusFault lastOrder statusCustomer statusOrder orderShown linesShown statusAnswer statusLines windowFirst windowCount levelAsked windowUsed levelUsed stockLevelFault lineItems windowItems isLow lowItems stockLevelAnswer answerOf after deliveryOrders ones ordersOf shownOf decimals signed textOf answerLine noFormLine printedFor leftAfter isNumber valueOf isName isWho whoRead parted linesRead readNewOrder readPayment readDelivery readOrderStatus readStockLevel readFields readLine
 listing = refl
-
--- the ten orders of the Delivery, and the lines that the Order-Status shows
-pub delivered-orders : deliveryOrders (afterAll programBook programNames (take 3 programLines)) programNames (record { warehouse = 1; carrier = 3; date = 200 })
-    ≡ 1 ∷ 0 ∷ 0 ∷ 0 ∷ 0 ∷ 0 ∷ 0 ∷ 0 ∷ 0 ∷ 0 ∷ []
-unfolding allTo nat cell balanceOk numbers nameBytes inside place get remap op upTo sumOf lowest largest warehouseTests districtTests customerTests itemTests stockTests slot orderTests lineTests orderOk dims dimsTests sizeTests headOk namePlace lastName firstName nameOk padded compareNames named before namesakes found customerOf warehouseUsed districtUsed customerUsed itemUsed stockUsed orderUsed customersUsed namesUsed ordersUsed whoUsed lineUsed newAsked priceOf orderable newUsed newOrderFault restock newOrderCommit orderTotal newOrderTotal newOrderAnswer newOrderBook payAsked payUsed paymentFault payer paymentCommit paidBalance paymentAnswer paymentBook deliveryAsked deliverable deliveryUsed deliveryFault waits oldest lineAmounts deliverOrder deliverDistrict deliverTo deliveryCommit oldestTen deliveryAnswer deliveryOrders deliveryBook statusAsked statusUsed statusFault lastOrder statusCustomer statusOrder orderShown statusAnswer windowFirst windowCount levelAsked windowUsed levelUsed stockLevelFault lineItems windowItems isLow lowItems stockLevelAnswer answerOf after
-delivered-orders = refl
-
-pub shown-lines : statusLines (afterAll programBook programNames (take 5 programLines)) programNames (record { warehouse = 1; district = 1 }) (byNumber 1)
-    ≡ pos 1 ∷ pos 1 ∷ pos 10 ∷ pos 1000 ∷ pos 200 ∷ pos 2 ∷ pos 1 ∷ pos 3 ∷ pos 750 ∷ pos 200 ∷ []
-unfolding allTo nat cell balanceOk numbers nameBytes inside place get remap op upTo sumOf lowest largest warehouseTests districtTests customerTests itemTests stockTests slot orderTests lineTests orderOk dims dimsTests sizeTests headOk namePlace lastName firstName nameOk padded compareNames named before namesakes found customerOf warehouseUsed districtUsed customerUsed itemUsed stockUsed orderUsed customersUsed namesUsed ordersUsed whoUsed lineUsed newAsked priceOf orderable newUsed newOrderFault restock newOrderCommit orderTotal newOrderTotal newOrderAnswer newOrderBook payAsked payUsed paymentFault payer paymentCommit paidBalance paymentAnswer paymentBook deliveryAsked deliverable deliveryUsed deliveryFault waits oldest lineAmounts deliverOrder deliverDistrict deliverTo deliveryCommit oldestTen deliveryAnswer deliveryBook statusAsked statusUsed statusFault lastOrder statusCustomer statusOrder orderShown linesShown statusAnswer statusLines windowFirst windowCount levelAsked windowUsed levelUsed stockLevelFault lineItems windowItems isLow lowItems stockLevelAnswer answerOf after
-shown-lines = refl

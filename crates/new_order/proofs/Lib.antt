@@ -5,3 +5,4 @@ pub mod Taking
 pub mod Filling
 pub mod Pricing
 pub mod Joining
+pub mod Gathering

@@ -6,7 +6,6 @@ use mathlib.Core.Logic.{_≢_}
 use mathlib.Core.List.{List, [], _∷_}
 use Prim.Native.Nat.{ℕ, zero, suc, _+_, _-_, _*_, _≤_, _<_}
 use native.Mathlib.Omega.{arith}
-use native.Mathlib.Decide.{ℕ-discrete}
 use lib.Dec.{eqb}
 use lib.IntN.{ℤ, pos}
 use lib.ListN.{length, take, drop}
@@ -23,7 +22,7 @@ use Rattle.model.specs.Head.{dims, headOk}
 use Rattle.model.specs.Names.{Who}
 use Rattle.model.specs.Lists.{largest}
 use Rattle.model.specs.Used.{districtUsed}
-use Rattle.model.specs.Answer.{committed, refused, leftBy}
+use Rattle.model.specs.Answer.{committed, refused}
 use Rattle.model.specs.OrderStatus.{statusAsked, statusUsed, statusFault, lastOrder, statusCustomer, statusOrder, orderShown, linesShown, statusAnswer, statusLines}
 use Rattle.model.specs.Claim.{R}
 use Rattle.model.proofs.TestLaws.{fault-then, fault-first}
@@ -172,33 +171,17 @@ module _ (b : List ℤ) (names : List ℕ) (q : OrderStatus) (who : Who) {s : Se
   unfolding statusAnswer
   kept-answer n = rw (ne-eqb (statusFault b names q who .number) 0 (some-fault n)) (ap (λ (x : Seen). refused (x .refusal)) e)
 
-  -- an order is shown: the status is not refused, and the order is one before next
-  order-refused : s .refusal .number ≢ 0 → s .order ≡ 0
-  order-refused n = ap (λ (x : Seen). x .order) e ∙ rw (ne-eqb (statusFault b names q who .number) 0 (some-fault n))
-
-  pub not-refused : s .order ≢ 0 → s .refusal .number ≡ 0
-  not-refused n = go (ℕ-discrete (s .refusal .number) 0)
-    where
-      go : Dec (s .refusal .number ≡ 0) → s .refusal .number ≡ 0
-      go (yes z) = z
-      go (no z) = absurd (n (order-refused z))
-
-  pub shown-order : s .order ≢ 0 → OrderIn (dims b) b (q .warehouse) (q .district) (s .order)
-  shown-order n =
-      let z = not-refused n in
+  -- an order that is shown is one before next
+  pub shown-order : s .refusal .number ≡ 0 → s .order ≢ 0 → OrderIn (dims b) b (q .warehouse) (q .district) (s .order)
+  shown-order z n =
       let u = ready z .used in
       let h = last-in (dims b) b (q .warehouse) (q .district) (statusCustomer (dims b) names q who) in
       u .orders (s .order) (record { lo = omega arith; hi = rw (order-is z, order-last) h })
 
-  pub shown-lines : s .order ≢ 0 → linesShown (dims b) b (q .warehouse) (q .district) (s .order) ≡ statusLines b names q who
+  pub shown-lines : s .refusal .number ≡ 0 → linesShown (dims b) b (q .warehouse) (q .district) (s .order) ≡ statusLines b names q who
   unfolding statusLines
-  shown-lines n = let z = not-refused n in rw (order-is z, eq-eqb (statusFault b names q who .number) 0 (none z))
+  shown-lines z = rw (order-is z, eq-eqb (statusFault b names q who .number) 0 (none z))
 
-  -- no order is shown
-  pub no-lines : s .order ≡ 0 → [] ≡ statusLines b names q who
+  pub no-lines : s .refusal .number ≢ 0 → [] ≡ statusLines b names q who
   unfolding statusLines
-  no-lines h = go (ℕ-discrete (s .refusal .number) 0)
-    where
-      go : Dec (s .refusal .number ≡ 0) → [] ≡ leftBy (statusFault b names q who) (linesShown (dims b) b (q .warehouse) (q .district) (statusOrder (dims b) b names q who)) []
-      go (yes z) = rw (eq-eqb (statusFault b names q who .number) 0 (none z)) (lines-none (dims b) b (q .warehouse) (q .district) (sym (order-is z) ∙ h))
-      go (no z) = rw (ne-eqb (statusFault b names q who .number) 0 (some-fault z))
+  no-lines n = rw (ne-eqb (statusFault b names q who .number) 0 (some-fault n))

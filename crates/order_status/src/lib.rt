@@ -1,22 +1,24 @@
 ghost use mathlib.Core.Path.{_≡_};
+ghost use mathlib.Core.Logic.{_≢_};
 ghost use mathlib.Core.Bool.{true};
 ghost use mathlib.Core.List.{[], _∷_};
 ghost use Prim.Native.Nat.{_+_, _*_, _≤_};
 ghost use lib.Dec.{leb};
 ghost use lib.IntN.{pos};
-ghost use lib.ListN.{length, take, drop};
+ghost use lib.ListN.{length};
 ghost use Rattle.model.specs.Tests.{every, fault};
-ghost use Rattle.model.specs.Layout.{shapes};
+ghost use Rattle.model.specs.Layout.{shapes, nameBytes};
 ghost use Rattle.model.specs.Store.{get, num};
 ghost use Rattle.model.specs.Rows.{balance, lineCount};
 ghost use Rattle.model.specs.Head.{dims};
-ghost use Rattle.model.specs.Names.{whoOf};
+ghost use Rattle.model.specs.Names.{whoOf, whoTests, customerOf};
 ghost use Rattle.model.specs.Lists.{largest};
-ghost use Rattle.model.specs.Used.{districtUsed};
+ghost use Rattle.model.specs.Used.{districtUsed, whoUsed};
 ghost use Rattle.model.specs.Answer.{statusSays};
 ghost use Rattle.model.specs.OrderStatus.{statusAsked, statusUsed, statusFault, lastOrder, statusCustomer, statusOrder, orderShown, linesShown, statusAnswer, statusLines};
+ghost use Rattle.model.specs.Request.{partOf};
 ghost use Rattle.model.specs.Claim.{R};
-ghost use Rattle.model.proofs.Fields.{Shaped};
+ghost use Rattle.model.proofs.Fields.{Dimensioned, Shaped};
 ghost use Rattle.model.proofs.StatusFacts.{StatusAsked};
 ghost use Rattle.rows.specs.Book.{Booked};
 ghost use Rattle.order_status.specs.Seen.{seenBy, nothing, isAt};
@@ -34,6 +36,18 @@ pub struct Seen {
     pub refusal: Refusal,
     pub customer: u64,
     pub order: u64,
+}
+
+// What a status answers: the outcome, and the part of the book that holds the shown lines.
+pub struct Shown {
+    pub outcome: StatusOutcome,
+    pub part: Part,
+}
+
+// A status in one answer: the outcome, and the shown lines as that part of the lent book.
+pub struct StatusAnswer<'a> {
+    pub outcome: StatusOutcome,
+    pub lines: &'a [i64],
 }
 
 // The warehouse is one of the book.
@@ -117,6 +131,28 @@ fn last_order(b: &[i64], d: Dims, w: u64, k: u64, c: u64) -> u64
     last_of(b, base, c, n)
 }
 
+// The customer that a request names, by number or by last name.
+fn customer_of(names: &[u8], d: Dims, w: u64, k: u64, who: Selection, name: &[u8]) -> Found
+    requires { ⌜ Dimensioned d × (R (d .warehouses) w × (R 10 k × (length (now names) ≡ nameBytes d))) ⌝ }
+    ensures { λ r. ⌜ r ≡ customerOf d (now (names .entry)) w k (whoOf who (now (name .entry))) ⌝ }
+{
+    match who {
+        Selection::Number(c) => Found::Customer(c),
+        Selection::LastName => lookup::find(names, d, w, k, name),
+    }
+}
+
+// The row of a customer given by number is in range, or by last name all rows and names of the district's customers.
+fn who_used(b: &[i64], names: &[u8], d: Dims, w: u64, k: u64, who: Selection, name: &[u8]) -> bool
+    requires { ⌜ Booked d (now b) × (R (d .warehouses) w × (R 10 k × ((length (now names) ≡ nameBytes d) × (every (whoTests d (whoOf who (now name))) ≡ true)))) ⌝ }
+    ensures { λ r. ⌜ r ≡ whoUsed d (now (b .entry)) (now (names .entry)) w k (whoOf who (now (name .entry))) ⌝ }
+{
+    match who {
+        Selection::Number(c) => rows::customer_used(b, d, w, k, c),
+        Selection::LastName => lookup::named_used(b, names, d, w, k),
+    }
+}
+
 // The first refusal that the rows and names decide, the customer and its last order.
 fn used(b: &[i64], names: &[u8], d: Dims, q: OrderStatus, who: Selection, name: &[u8]) -> Seen
     requires { ⌜ Shaped d (now b) (length (now names)) × StatusAsked d q (whoOf who (now name)) ⌝ }
@@ -125,13 +161,13 @@ fn used(b: &[i64], names: &[u8], d: Dims, q: OrderStatus, who: Selection, name: 
     if !rows::district_used(b, d, q.warehouse, q.district) {
         return refused(9);
     }
-    if !lookup::who_used(b, names, d, q.warehouse, q.district, who, name) {
+    if !who_used(b, names, d, q.warehouse, q.district, who, name) {
         return refused(9);
     }
     if !rows::orders_used(b, d, q.warehouse, q.district) {
         return refused(9);
     }
-    let found = lookup::customer_of(names, d, q.warehouse, q.district, who, name);
+    let found = customer_of(names, d, q.warehouse, q.district, who, name);
     let Found::Customer(c) = found else {
         return refused(10);
     };
@@ -192,11 +228,14 @@ fn figures_of(b: &[i64], d: Dims, q: OrderStatus, c: u64, o: u64) -> StatusFigur
     }
 }
 
-// Where the lines of an order start in the book, and how many numbers they are.
+// Where the lines of an order start in the book, and how many numbers they are; no numbers for order 0.
 fn part_of(b: &[i64], d: Dims, w: u64, k: u64, o: u64) -> Part
-    requires { ⌜ Booked d (now b) × (R (d .warehouses) w × (R 10 k × (R (d .orders) o × R 15 (num (shapes d) (now b) (lineCount d w k o))))) ⌝ }
-    ensures { λ r. ⌜ (r .from + r .count ≤ length (now (b .entry))) × (take (r .count) (drop (r .from) (now (b .entry))) ≡ linesShown d (now (b .entry)) w k o) ⌝ }
+    requires { ⌜ Booked d (now b) × (R (d .warehouses) w × (R 10 k × ((o ≤ d .orders) × (o ≢ 0 → R 15 (num (shapes d) (now b) (lineCount d w k o)))))) ⌝ }
+    ensures { λ r. ⌜ (r .from + r .count ≤ length (now (b .entry))) × (partOf r (now (b .entry)) ≡ linesShown d (now (b .entry)) w k o) ⌝ }
 {
+    if o == 0 {
+        return Part { from: 0, count: 0 };
+    }
     let n = rows::line_count(b, d, w, k, o);
     let p = layout::order_at(d, w, k, o);
     let from = p + 6;
@@ -204,52 +243,48 @@ fn part_of(b: &[i64], d: Dims, w: u64, k: u64, o: u64) -> Part
     Part { from, count }
 }
 
-// Order-Status, by customer number or by last name: the figures.
-pub fn status_outcome(
-    b: &[i64],
-    names: &[u8],
-    q: OrderStatus,
-    who: Selection,
-    name: &[u8],
-) -> StatusOutcome
-    ensures { λ r. ⌜ statusSays r ≡ statusAnswer (now (b .entry)) (now (names .entry)) q (whoOf who (now (name .entry))) ⌝ }
+// Order-Status, by customer number or by last name: the outcome, and where the shown lines are in the book; the district's orders are scanned once.
+pub fn status_shown(b: &[i64], names: &[u8], q: OrderStatus, who: Selection, name: &[u8]) -> Shown
+    ensures { λ r. ⌜ (statusSays (r .outcome) ≡ statusAnswer (now (b .entry)) (now (names .entry)) q (whoOf who (now (name .entry)))) × ((r .part .from + r .part .count ≤ length (now (b .entry))) × (partOf (r .part) (now (b .entry)) ≡ statusLines (now (b .entry)) (now (names .entry)) q (whoOf who (now (name .entry))))) ⌝ }
 {
     let seen = seen_of(b, names, q, who, name);
     let refusal = seen.refusal;
     if refusal.number == 0 {
         let d = layout::dims_of(b);
         let figures = figures_of(b, d, q, seen.customer, seen.order);
-        return StatusOutcome::Committed(figures);
+        let outcome = StatusOutcome::Committed(figures);
+        let part = part_of(b, d, q.warehouse, q.district, seen.order);
+        return Shown { outcome, part };
     }
-    StatusOutcome::Refused(refusal)
+    let outcome = StatusOutcome::Refused(refusal);
+    let part = Part { from: 0, count: 0 };
+    Shown { outcome, part }
 }
 
-// Order-Status: where the lines of the order are in the book; no numbers where there is no order to show.
-pub fn status_part(b: &[i64], names: &[u8], q: OrderStatus, who: Selection, name: &[u8]) -> Part
-    ensures { λ r. ⌜ (r .from + r .count ≤ length (now (b .entry))) × (take (r .count) (drop (r .from) (now (b .entry))) ≡ statusLines (now (b .entry)) (now (names .entry)) q (whoOf who (now (name .entry)))) ⌝ }
+// The part of the lent book that a status shows.
+fn lines_in<'a>(b: &'a [i64], part: Part) -> &'a [i64]
+    requires { ⌜ part .from + part .count ≤ length (now b) ⌝ }
+    ensures { λ r. ⌜ now r ≡ partOf part (now (b .entry)) ⌝ }
 {
-    let seen = seen_of(b, names, q, who, name);
-    if seen.order == 0 {
-        return Part { from: 0, count: 0 };
-    }
-    let d = layout::dims_of(b);
-    part_of(b, d, q.warehouse, q.district, seen.order)
-}
-
-// Order-Status: the lines of the order, as that part of the lent book; an empty part where there is no order to show.
-pub fn status_lines<'a>(
-    b: &'a [i64],
-    names: &[u8],
-    q: OrderStatus,
-    who: Selection,
-    name: &[u8],
-) -> &'a [i64]
-    ensures { λ r. ⌜ now r ≡ statusLines (now (b .entry)) (now (names .entry)) q (whoOf who (now (name .entry))) ⌝ }
-{
-    let part = status_part(b, names, q, who, name);
     let end = part.from + part.count;
     let start = part.from;
     let from = start as usize;
     let to = end as usize;
     &b[from..to]
+}
+
+// Order-Status, by customer number or by last name; the lines are shown as that part of the lent book, an empty one where there is no order to show.
+pub fn order_status<'a>(
+    b: &'a [i64],
+    names: &[u8],
+    q: OrderStatus,
+    who: Selection,
+    name: &[u8],
+) -> StatusAnswer<'a>
+    ensures { λ r. ⌜ (statusSays (r .outcome) ≡ statusAnswer (now (b .entry)) (now (names .entry)) q (whoOf who (now (name .entry)))) × (now (r .lines) ≡ statusLines (now (b .entry)) (now (names .entry)) q (whoOf who (now (name .entry)))) ⌝ }
+{
+    let s = status_shown(b, names, q, who, name);
+    let lines = lines_in(b, s.part);
+    let outcome = s.outcome;
+    StatusAnswer { outcome, lines }
 }

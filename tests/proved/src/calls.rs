@@ -18,12 +18,8 @@ extern "C" {
         district: u64,
         customer: u64,
         date: u64,
-        items: *const u64,
-        items_len: usize,
-        supplies: *const u64,
-        supplies_len: usize,
-        quantities: *const u64,
-        quantities_len: usize,
+        lines: *const Line,
+        lines_len: usize,
         out: *mut u64,
     );
     fn book_payment(
@@ -85,7 +81,7 @@ extern "C" {
 pub struct ProvedEngine;
 
 /// The outcome that the first two figures say.
-fn outcome<F>(out: &[u64], figures: F) -> Outcome<F> {
+pub(crate) fn outcome<F>(out: &[u64], figures: F) -> Outcome<F> {
     match out[0] {
         0 => Outcome::Committed(figures),
         number => Outcome::Refused(Refusal { number, detail: out[1] }),
@@ -93,15 +89,11 @@ fn outcome<F>(out: &[u64], figures: F) -> Outcome<F> {
 }
 
 /// Who as the calls take it: whether by name, the number, the name.
-fn who(who: &Who) -> (bool, u64, &[u8]) {
+pub(crate) fn who(who: &Who) -> (bool, u64, &[u8]) {
     match who {
         Who::Number(number) => (false, *number, &[]),
         Who::LastName(name) => (true, 0, name),
     }
-}
-
-fn column(lines: &[Line], field: impl Fn(&Line) -> u64) -> Vec<u64> {
-    lines.iter().map(field).collect()
 }
 
 impl Engine for ProvedEngine {
@@ -115,9 +107,6 @@ impl Engine for ProvedEngine {
     }
 
     fn new_order(&mut self, lent: &mut Lent, request: &NewOrder) -> Outcome<NewOrderFigures> {
-        let items = column(&request.lines, |line| line.item);
-        let supplies = column(&request.lines, |line| line.supply_warehouse);
-        let quantities = column(&request.lines, |line| line.quantity);
         let mut out = [0; 4];
         unsafe {
             book_new_order(
@@ -129,12 +118,8 @@ impl Engine for ProvedEngine {
                 request.district,
                 request.customer,
                 request.date,
-                items.as_ptr(),
-                items.len(),
-                supplies.as_ptr(),
-                supplies.len(),
-                quantities.as_ptr(),
-                quantities.len(),
+                request.lines.as_ptr(),
+                request.lines.len(),
                 out.as_mut_ptr(),
             );
         }
@@ -242,10 +227,10 @@ impl Engine for ProvedEngine {
     }
 
     fn read(&mut self, line: &[u8]) -> Outcome<Request> {
-        second::read_line(line)
+        crate::lines::read(line)
     }
 
     fn write(&mut self, request: &Request, buffer: &mut [u8]) -> Outcome<u64> {
-        second::write_line(request, buffer)
+        crate::lines::write(request, buffer)
     }
 }

@@ -3,5 +3,6 @@
 //! Each call passes the lent slices on as they stand; nothing is judged here.
 
 mod calls;
+mod lines;
 
 pub use calls::ProvedEngine;

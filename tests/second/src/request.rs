@@ -1,6 +1,7 @@
 //! The five requests. Their numbers are unsigned 64-bit and may be anything.
 
-/// One line of an order to be placed.
+/// One line of an order to be placed; its three numbers lie as a C struct has them, so that a library can be lent the lines as they are.
+#[repr(C)]
 #[derive(Debug, Clone, Copy, PartialEq, Eq)]
 pub struct Line {
     pub item: u64,

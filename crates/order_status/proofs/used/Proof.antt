@@ -8,8 +8,8 @@ use Rattle.order_status.proofs.used.Statement.{statement}
 use Rattle.order_status.proofs.used.Tie as tie
 use Rattle.order_status.proofs.used.Reads as reads
 use Rattle.order_status.proofs.used.Lts as lts
-use Rattle.lookup.proofs.customer_of.Reads as customer-of-reads
-use Rattle.lookup.proofs.who_used.Reads as who-used-reads
+use Rattle.order_status.proofs.customer_of.Reads as customer-of-reads
+use Rattle.order_status.proofs.who_used.Reads as who-used-reads
 use Rattle.order_status.proofs.last_order.Reads as last-order-reads
 use Rattle.order_status.proofs.refused.Reads as refused-reads
 use Rattle.rows.proofs.district_used.Reads as district-used-reads

@@ -11,8 +11,8 @@ use Rattle.payment.proofs.used.Statement.{statement}
 use Rattle.payment.proofs.used.Tie as tie
 use Rattle.payment.proofs.used.Reads as reads
 use Rattle.payment.proofs.used.Lts as lts
-use Rattle.lookup.proofs.customer_of.Reads as customer-of-reads
-use Rattle.lookup.proofs.who_used.Reads as who-used-reads
+use Rattle.payment.proofs.customer_of.Reads as customer-of-reads
+use Rattle.payment.proofs.who_used.Reads as who-used-reads
 use Rattle.payment.proofs.refused.Reads as refused-reads
 use Rattle.rows.proofs.district_used.Reads as district-used-reads
 use Rattle.rows.proofs.history_count.Reads as history-count-reads

@@ -1,0 +1,5 @@
+//! Links Debian's SQLite.
+
+fn main() {
+    println!("cargo:rustc-link-lib=sqlite3");
+}

@@ -1,0 +1,185 @@
+//! Times every call on one book: all contenders in turn, round by round, the best round of each.
+
+use crate::book::{self, Size};
+use crate::check::Engines;
+use crate::contender::{Contender, InBook};
+use crate::counting;
+use crate::requests::{Asker, Call, Timed, CALLS};
+use crate::sums;
+use proved::ProvedEngine;
+use second::layout::Layout;
+use second::replay::{Lent, SecondEngine};
+use second::{Line, Request};
+use std::hint::black_box;
+use std::time::Instant;
+
+/// Microseconds a call.
+pub struct Row {
+    pub call: Call,
+    pub name: &'static str,
+    pub proved: f64,
+    pub second: f64,
+    pub sql: f64,
+    pub sum: Option<f64>,
+}
+
+const CONTENDERS: usize = 4;
+
+/// Everything that is timed on one book.
+struct Field {
+    engines: Engines,
+    /// The book that is summed, kept in step with the others.
+    summed: InBook<SecondEngine>,
+    layout: Layout,
+}
+
+impl Field {
+    fn on(lent: Lent, layout: Layout) -> Field {
+        let engines = Engines::on(&lent, &layout);
+        Field {
+            engines,
+            summed: InBook {
+                engine: SecondEngine,
+                lent,
+            },
+            layout,
+        }
+    }
+
+    /// Microseconds a call of one contender, and the digest of its answers.
+    fn time(&mut self, contender: usize, requests: &[Request]) -> (f64, u64) {
+        let start = Instant::now();
+        let digest = match contender {
+            0 => self.engines.proved.batch(requests),
+            1 => self.engines.second.batch(requests),
+            2 => self.engines.sql.batch(requests),
+            _ => {
+                let lent = black_box(&self.summed.lent);
+                requests.iter().fold(0, |all, r| {
+                    all ^ sums::used_rows(lent, &self.layout, r) as u64
+                })
+            }
+        };
+        let spent = start.elapsed().as_secs_f64() * 1e6 / requests.len() as f64;
+        (spent, black_box(digest))
+    }
+
+    /// One round: the contenders in turn, another one first each time.
+    fn round(&mut self, round: usize, requests: &[Request], best: &mut [f64; CONTENDERS]) {
+        let mut digests = [0; CONTENDERS];
+        for turn in 0..CONTENDERS {
+            let contender = (turn + round) % CONTENDERS;
+            let (spent, digest) = self.time(contender, requests);
+            best[contender] = best[contender].min(spent);
+            digests[contender] = digest;
+        }
+        assert!(
+            digests[0] == digests[1] && digests[1] == digests[2],
+            "the engines answered differently"
+        );
+    }
+}
+
+/// One row for each call; each has its rounds divided by `fewer`.
+pub fn book(size: &Size, fewer: usize) -> Vec<Row> {
+    let mut field = Field::on(book::make(size), size.layout());
+    let mut asker = Asker::new(size, 2);
+    for request in asker.batch(Call::Mix, 200) {
+        field.engines.agree(&request);
+        field.summed.answer(&request);
+    }
+    let rows = CALLS
+        .iter()
+        .map(|timed| row(&mut field, &mut asker, timed, fewer))
+        .collect();
+    let Engines { proved, second, .. } = &field.engines;
+    assert!(
+        proved.lent == second.lent && second.lent == field.summed.lent,
+        "the books differ at the end"
+    );
+    rows
+}
+
+fn row(field: &mut Field, asker: &mut Asker, timed: &Timed, fewer: usize) -> Row {
+    let mut best = [f64::MAX; CONTENDERS];
+    for round in 0..timed.rounds / fewer {
+        let requests = asker.batch(timed.call, timed.batch);
+        field.round(round, &requests, &mut best);
+        if timed.call.writes() {
+            field.summed.batch(&requests);
+        }
+    }
+    let [proved, second, sql, sum] = best;
+    Row {
+        call: timed.call,
+        name: timed.name,
+        proved,
+        second,
+        sql,
+        sum: sums::scans(timed.call).then_some(sum),
+    }
+}
+
+/// What a New-Order's lines cost before they reach the proved library: allocations of the test wrapper, and the microseconds of three
+/// vectors filled from the lines, which is what it does where it allocates. They are timed as so much more before each call.
+pub fn wrapper(size: &Size) -> (usize, f64) {
+    let mut asker = Asker::new(size, 3);
+    let lent = book::make(size);
+    let mut proved = InBook {
+        engine: ProvedEngine,
+        lent,
+    };
+    let first = asker.batch(Call::NewOrder, 1);
+    let before = counting::allocations();
+    proved.batch(&first);
+    let allocations = counting::allocations() - before;
+    let mut best = [f64::MAX; 2];
+    for round in 0..100 {
+        let requests = asker.batch(Call::NewOrder, 100);
+        let more = round % 2;
+        best[more] = best[more].min(time_copied(&mut proved, &requests, more));
+    }
+    (allocations, best[1] - best[0])
+}
+
+/// Microseconds a New-Order, the lines copied so many times before each.
+fn time_copied(proved: &mut InBook<ProvedEngine>, requests: &[Request], times: usize) -> f64 {
+    let start = Instant::now();
+    for request in requests {
+        for _ in 0..times {
+            black_box(columns(request));
+        }
+        black_box(proved.batch(std::slice::from_ref(request)));
+    }
+    start.elapsed().as_secs_f64() * 1e6 / requests.len() as f64
+}
+
+/// A New-Order's lines as three vectors.
+fn columns(request: &Request) -> [Vec<u64>; 3] {
+    let Request::NewOrder(r) = request else {
+        return Default::default();
+    };
+    let column = |field: fn(&Line) -> u64| r.lines.iter().map(field).collect();
+    [
+        column(|line| line.item),
+        column(|line| line.supply_warehouse),
+        column(|line| line.quantity),
+    ]
+}
+
+/// Carries out one call's rounds on the proved library alone, ten times over.
+pub fn alone(name: &str, size: &Size) {
+    let timed = CALLS.iter().find(|timed| timed.name == name);
+    let timed = timed.expect("the name of a row");
+    let fresh = book::make(size);
+    for _ in 0..10 {
+        let mut asker = Asker::new(size, 2);
+        let mut proved = InBook {
+            engine: ProvedEngine,
+            lent: fresh.clone(),
+        };
+        for _ in 0..timed.rounds {
+            black_box(proved.batch(&asker.batch(timed.call, timed.batch)));
+        }
+    }
+}

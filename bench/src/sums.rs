@@ -1,0 +1,85 @@
+//! The memory limit: a plain sum over the used rows of a call that scans, as they lie in the book.
+
+use crate::book::used_numbers;
+use crate::requests::Call;
+use second::layout::{district, order, Layout};
+use second::replay::Lent;
+use second::{Request, Who};
+
+/// A call whose used rows grow with the book.
+pub fn scans(call: Call) -> bool {
+    !matches!(call, Call::NewOrder | Call::PaymentByNumber | Call::Mix)
+}
+
+/// The sum over the used rows of a request.
+pub fn used_rows(lent: &Lent, layout: &Layout, request: &Request) -> i64 {
+    match request {
+        Request::NewOrder(_) => 0,
+        Request::Payment(r) => {
+            let home = (r.customer_warehouse as usize, r.customer_district as usize);
+            let terminal = layout.district(r.warehouse as usize, r.district as usize);
+            let money = sum(&lent.nums[layout.warehouse(r.warehouse as usize)])
+                .wrapping_add(sum(&lent.nums[terminal]));
+            money.wrapping_add(customers(lent, layout, home, &r.who))
+        }
+        Request::Delivery(r) => (1..=10).fold(0, |all: i64, district| {
+            let (w, d) = (r.warehouse as usize, district);
+            let row = sum(&lent.nums[layout.district(w, d)]);
+            let customers = sum(&lent.nums[layout.customers_of(w, d)]);
+            all.wrapping_add(row)
+                .wrapping_add(customers)
+                .wrapping_add(orders_from(lent, layout, (w, d), 1))
+        }),
+        Request::OrderStatus(r) => {
+            let place = (r.warehouse as usize, r.district as usize);
+            let row = sum(&lent.nums[layout.district(place.0, place.1)]);
+            row.wrapping_add(customers(lent, layout, place, &r.who))
+                .wrapping_add(orders_from(lent, layout, place, 1))
+        }
+        Request::StockLevel(r) => {
+            let place = (r.warehouse as usize, r.district as usize);
+            let row = &lent.nums[layout.district(place.0, place.1)];
+            let first = second::stock_level::window_start(row[district::NEXT_ORDER] as usize);
+            let window = orders_from(lent, layout, place, first);
+            sum(row)
+                .wrapping_add(window)
+                .wrapping_add(sum(&lent.nums[layout.stock_of(place.0)]))
+        }
+    }
+}
+
+/// The customer's row, or by name all rows and names of the district.
+fn customers(lent: &Lent, layout: &Layout, (w, d): (usize, usize), who: &Who) -> i64 {
+    match who {
+        Who::Number(number) => sum(&lent.nums[layout.customer(w, d, *number as usize)]),
+        Who::LastName(_) => {
+            let rows = sum(&lent.nums[layout.customers_of(w, d)]);
+            rows.wrapping_add(sum_bytes(&lent.names[layout.names_of(w, d)]))
+        }
+    }
+}
+
+/// The orders of a district from number `first` up to, but without, next.
+fn orders_from(lent: &Lent, layout: &Layout, (w, d): (usize, usize), first: usize) -> i64 {
+    let next = lent.nums[layout.district(w, d)][district::NEXT_ORDER] as usize;
+    let section = &lent.nums[layout.orders_of(w, d)];
+    section[(first - 1) * order::WIDTH..(next - 1) * order::WIDTH]
+        .chunks_exact(order::WIDTH)
+        .fold(0, |all: i64, slot| {
+            all.wrapping_add(sum(&slot[..used_numbers(slot)]))
+        })
+}
+
+fn sum(numbers: &[i64]) -> i64 {
+    numbers
+        .iter()
+        .fold(0, |all, &number| all.wrapping_add(number))
+}
+
+/// Bytes are taken eight at a time.
+fn sum_bytes(bytes: &[u8]) -> i64 {
+    let word = |eight: &[u8]| eight.try_into().map_or(0, i64::from_le_bytes);
+    bytes
+        .chunks_exact(8)
+        .fold(0, |all: i64, eight| all.wrapping_add(word(eight)))
+}

@@ -1,0 +1,142 @@
+//! The tables, in Markdown.
+
+use crate::measure::Row;
+use std::fs;
+
+/// A time with three figures that count.
+fn time(micros: f64) -> String {
+    let places = match micros {
+        m if m >= 99.95 => 0,
+        m if m >= 9.995 => 1,
+        m if m >= 0.9995 => 2,
+        _ => 3,
+    };
+    format!("{micros:.places$}")
+}
+
+fn or_dash(value: Option<String>) -> String {
+    value.unwrap_or_else(|| "–".into())
+}
+
+/// Times of all contenders on one book, and the proved library's time as a multiple of each other one's.
+pub fn compared(title: &str, rows: &[Row]) {
+    println!("\n### {title}\n");
+    println!("| Call | Proved, µs | Second engine, µs | SQLite, µs | Plain sum, µs | Proved ÷ second | Proved ÷ SQLite | Proved ÷ sum |");
+    println!("|---|--:|--:|--:|--:|--:|--:|--:|");
+    for row in rows {
+        println!(
+            "| {} | {} | {} | {} | {} | {:.2} | {:.3} | {} |",
+            row.name,
+            time(row.proved),
+            time(row.second),
+            time(row.sql),
+            or_dash(row.sum.map(time)),
+            row.proved / row.second,
+            row.proved / row.sql,
+            or_dash(row.sum.map(|sum| format!("{:.2}", row.proved / sum))),
+        );
+    }
+}
+
+/// Times at each size, and the largest as a multiple of the smallest.
+pub fn growth(titles: &[&str], sizes: &[Vec<Row>]) {
+    let heads: Vec<String> = titles.iter().map(|title| format!("{title}, µs")).collect();
+    println!(
+        "\n| Call | Who | {} | {} ÷ {} |",
+        heads.join(" | "),
+        titles[titles.len() - 1],
+        titles[0]
+    );
+    println!("|---|---|{}--:|", "--:|".repeat(titles.len()));
+    for (place, first) in sizes[0].iter().enumerate() {
+        line(first.name, "proved", sizes, |rows| Some(rows[place].proved));
+        line("", "second engine", sizes, |rows| Some(rows[place].second));
+        line("", "SQLite", sizes, |rows| Some(rows[place].sql));
+        line("", "plain sum", sizes, |rows| rows[place].sum);
+    }
+}
+
+fn line(call: &str, who: &str, sizes: &[Vec<Row>], pick: impl Fn(&[Row]) -> Option<f64>) {
+    let times: Vec<f64> = sizes.iter().filter_map(|rows| pick(rows)).collect();
+    if let (Some(first), Some(last)) = (times.first(), times.last()) {
+        let cells: Vec<String> = times.iter().map(|&t| time(t)).collect();
+        println!(
+            "| {call} | {who} | {} | {:.1} |",
+            cells.join(" | "),
+            last / first
+        );
+    }
+}
+
+/// The rows that miss what was set out to reach, over all books.
+pub fn missed(books: &[(&str, Vec<Row>)]) {
+    println!("\n### What misses the mark\n\nSlower than the second engine, or under half the speed of the plain sum (Delivery, Order-Status, Stock-Level):\n");
+    let mut any = false;
+    for (title, rows) in books {
+        for row in rows {
+            any |= miss(title, row);
+        }
+    }
+    if !any {
+        println!("- nothing.");
+    }
+}
+
+fn miss(title: &str, row: &Row) -> bool {
+    use crate::requests::Call;
+    let to_second = row.proved / row.second;
+    let to_sum = row
+        .sum
+        .filter(|_| row.call != Call::PaymentByName)
+        .map_or(0.0, |sum| row.proved / sum);
+    if to_second > 1.0 {
+        println!(
+            "- {title}, {}: {to_second:.2} times the second engine's time.",
+            row.name
+        );
+    }
+    if to_sum > 2.0 {
+        println!(
+            "- {title}, {}: {to_sum:.2} times the plain sum's time.",
+            row.name
+        );
+    }
+    to_second > 1.0 || to_sum > 2.0
+}
+
+/// What of New-Order's time is not the library's.
+pub fn wrapper((allocations, micros): (usize, f64)) {
+    match allocations {
+        0 => println!("\nThe test wrapper of a New-Order allocates nothing."),
+        n => println!("\nNew-Order's time on the proved library includes {n} vectors of the test wrapper, at least {micros:.2} µs."),
+    }
+}
+
+/// Processor, cores, memory, and the versions of what was built with.
+pub fn machine() {
+    let field = |file: &str, name: &str| {
+        let text = fs::read_to_string(file).unwrap_or_default();
+        let line = text
+            .lines()
+            .find(|line| line.starts_with(name))
+            .unwrap_or_default();
+        line.split(':')
+            .nth(1)
+            .unwrap_or_default()
+            .trim()
+            .to_string()
+    };
+    println!("## Machine and check\n");
+    let cores = std::thread::available_parallelism().map_or(0, usize::from);
+    let kilobytes = field("/proc/meminfo", "MemTotal")
+        .trim_end_matches(" kB")
+        .parse()
+        .unwrap_or(0.0);
+    println!(
+        "Machine: {}, {cores} cores, cache of {}, {:.0} GiB.",
+        field("/proc/cpuinfo", "model name"),
+        field("/proc/cpuinfo", "cache size"),
+        kilobytes / f64::from(1 << 20)
+    );
+    println!("SQLite {}.", crate::sqlite::version());
+}

@@ -1,0 +1,28 @@
+use borrow.Author.Needs.{needs}
+use Rattle.capi.proofs.book_write_order_status.Statement.{statement}
+use Rattle.capi.proofs.book_write_order_status.Tie as tie
+use Rattle.capi.proofs.book_write_order_status.Reads as reads
+use Rattle.capi.proofs.book_write_order_status.Lts as lts
+use Rattle.capi.proofs.selection.Reads as selection-reads
+use Rattle.capi.proofs.write_bare.Reads as write-bare-reads
+
+-- src/lib.rt:542:9
+selection-requires : tie.Need-selection-requires
+selection-requires c κs = search needs
+
+-- src/lib.rt:544:12
+write-bare-requires : tie.Need-write-bare-requires
+write-bare-requires c κs = search needs
+
+-- src/lib.rt:526:1
+same-length : tie.Need-same-length
+same-length c = search needs
+
+-- src/lib.rt:526:1
+returns : tie.Need-returns
+returns c =
+    rw (← c .before .before .before .before .selection .ensures) (c .before .before .write-bare .ensures)
+
+pub book-write-order-status-spec : {M : Type 1} → statement M
+book-write-order-status-spec =
+    tie.close (tie.spec selection-requires write-bare-requires same-length returns)

@@ -1,0 +1,29 @@
+use Rattle.model.specs.Numbers.{nat}
+use borrow.Author.Needs.{needs}
+use Rattle.capi.proofs.write_out.Statement.{statement}
+use Rattle.capi.proofs.write_out.Tie as tie
+use Rattle.capi.proofs.write_out.Reads as reads
+use Rattle.capi.proofs.write_out.Lts as lts
+
+-- src/lib.rt:432:31
+enum-known-o : tie.Need-enum-known-o
+enum-known-o c = search needs
+
+-- src/lib.rt:433:31
+enum-known-o-2 : tie.Need-enum-known-o-2
+enum-known-o-2 c = search needs
+
+-- src/lib.rt:428:1
+returns : tie.Need-returns
+unfolding nat
+returns c =
+    rw (c .before .o .given .1)
+
+-- src/lib.rt:428:1
+returns-2 : tie.Need-returns-2
+unfolding nat
+returns-2 c =
+    rw (c .before .o2 .given .1)
+
+pub write-out-spec : {M : Type 1} → statement M
+write-out-spec = tie.close (tie.spec enum-known-o enum-known-o-2 returns returns-2)

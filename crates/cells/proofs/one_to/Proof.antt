@@ -1,0 +1,31 @@
+use mathlib.Core.Path.{sym, ap, _∙_}
+use Rattle.model.specs.Numbers.{nat, cell}
+use Rattle.cells.proofs.Signed.{held, bits-tested}
+use borrow.Author.Needs.{needs}
+use Rattle.cells.proofs.one_to.Statement.{statement}
+use Rattle.cells.proofs.one_to.Tie as tie
+use Rattle.cells.proofs.one_to.Reads as reads
+use Rattle.cells.proofs.one_to.Lts as lts
+use Rattle.cells.proofs.bits_of.Reads as bits-of-reads
+
+-- src/lib.rt:43:21
+mul-bits-of : tie.Need-mul-bits-of
+mul-bits-of c = search needs
+
+-- src/lib.rt:43:21
+shared-slice-copy-out-bits-of : tie.Need-shared-slice-copy-out-bits-of
+shared-slice-copy-out-bits-of c = search needs
+
+-- src/lib.rt:43:9
+bits-of-requires : tie.Need-bits-of-requires
+bits-of-requires c κs = search needs
+
+-- src/lib.rt:39:1
+returns : tie.Need-returns
+unfolding cell
+returns c =
+    bits-tested _ (c .bits-of .result) _ (c .before .before .pre .1) (ap nat (sym (held (c .before .bits-of-arg .given))) ∙ c .bits-of .ensures)
+
+pub one-to-spec : {M : Type 1} → statement M
+one-to-spec =
+    tie.close (tie.spec mul-bits-of shared-slice-copy-out-bits-of bits-of-requires returns)

@@ -1,0 +1,370 @@
+// Request lines: writing one.
+ghost use mathlib.Core.Path.{_≡_};
+ghost use mathlib.Core.Bool.{true};
+ghost use mathlib.Core.List.{[], _∷_};
+ghost use Prim.Native.Nat.{_+_, _*_, _≤_, _<_};
+ghost use lib.ListN.{length};
+ghost use lib.Seq.{sets, paste};
+ghost use Rattle.model.specs.Tests.{allOf};
+ghost use Rattle.model.specs.Names.{whoOf};
+ghost use Rattle.model.specs.Request.{requestOf, linesOf, newOrder, payment, delivery, orderStatus, stockLevel};
+ghost use Rattle.model.specs.RequestLine.{isName, hasDigits, decimal, hasWho, whoField, lineSmall, lineFields, hasForm, writeAnswer, writeBuffer, writeSays};
+ghost use Rattle.writing.specs.Writing.{Put, Whole, notWritten};
+use model::Delivery;
+use model::Form;
+use model::NewOrder;
+use model::OrderStatus;
+use model::Payment;
+use model::Refusal;
+use model::Selection;
+use model::StockLevel;
+use model::WriteAnswer;
+use model::WriteOutcome;
+
+// A number written from a place on; the place after it.
+fn put_number(line: &mut [u8], at: usize, n: u64) -> usize
+    requires { ⌜ (n < 10000000000) × (at + length (decimal n) ≤ length (now line)) ⌝ }
+    ensures { λ r. ⌜ (r ≡ at + length (decimal n)) × (now (line .exit) ≡ sets (now (line .entry)) at (decimal n)) ⌝ }
+{
+    if n < 10 {
+        line[at] = (48 + n % 10) as u8;
+        return at + 1;
+    }
+    let p = put_number(&mut line[..], at, n / 10);
+    line[p] = (48 + n % 10) as u8;
+    p + 1
+}
+
+// A tab and a number.
+fn put_one(line: &mut [u8], at: usize, n: u64) -> usize
+    requires { ⌜ (n < 10000000000) × (at + 11 ≤ length (now line)) ⌝ }
+    ensures { λ r. ⌜ Put (now (line .entry)) (now (line .exit)) at r (decimal n ∷ []) × (r ≤ at + 11) ⌝ }
+{
+    line[at] = 9;
+    put_number(line, at + 1, n)
+}
+
+// Two numbers, each after a tab.
+fn put_two(line: &mut [u8], at: usize, a: u64, b: u64) -> usize
+    requires { ⌜ (a < 10000000000) × ((b < 10000000000) × (at + 22 ≤ length (now line))) ⌝ }
+    ensures { λ r. ⌜ Put (now (line .entry)) (now (line .exit)) at r (decimal a ∷ decimal b ∷ []) × (r ≤ at + 22) ⌝ }
+{
+    let p = put_one(line, at, a);
+    put_one(line, p, b)
+}
+
+// Three numbers, each after a tab.
+fn put_three(line: &mut [u8], at: usize, a: u64, b: u64, c: u64) -> usize
+    requires { ⌜ (a < 10000000000) × ((b < 10000000000) × ((c < 10000000000) × (at + 33 ≤ length (now line)))) ⌝ }
+    ensures { λ r. ⌜ Put (now (line .entry)) (now (line .exit)) at r (decimal a ∷ decimal b ∷ decimal c ∷ []) × (r ≤ at + 33) ⌝ }
+{
+    let p = put_two(line, at, a, b);
+    put_one(line, p, c)
+}
+
+// The first n bytes of a line copied into a buffer from a place on.
+fn copy(buffer: &mut [u8], at: usize, line: &[u8], n: usize)
+    requires { ⌜ (at + n ≤ length (now buffer)) × (n ≤ length (now line)) ⌝ }
+    ensures { λ r. ⌜ now (buffer .exit) ≡ paste (now (buffer .entry)) at (now (line .entry)) n ⌝ }
+{
+    let mut i = 0;
+    while i < n {
+        buffer[at + i] = line[i];
+        i += 1;
+    }
+}
+
+// A tab, # and a number.
+fn put_hash(line: &mut [u8], at: usize, c: u64) -> usize
+    requires { ⌜ (hasDigits c ≡ true) × (at + 18 ≤ length (now line)) ⌝ }
+    ensures { λ r. ⌜ Put (now (line .entry)) (now (line .exit)) at r ((35 ∷ decimal c) ∷ []) × (r ≤ at + 18) ⌝ }
+{
+    line[at] = 9;
+    line[at + 1] = 35;
+    put_number(line, at + 2, c)
+}
+
+// A tab, = and a name.
+fn put_name(line: &mut [u8], at: usize, name: &[u8]) -> usize
+    requires { ⌜ (isName (now name) ≡ true) × (at + 18 ≤ length (now line)) ⌝ }
+    ensures { λ r. ⌜ Put (now (line .entry)) (now (line .exit)) at r ((61 ∷ now (name .entry)) ∷ []) × (r ≤ at + 18) ⌝ }
+{
+    line[at] = 9;
+    line[at + 1] = 61;
+    let n = name.len();
+    copy(line, at + 2, name, n);
+    at + 2 + n
+}
+
+// A tab and who.
+fn put_who(line: &mut [u8], at: usize, who: Selection, name: &[u8]) -> usize
+    requires { ⌜ (hasWho (whoOf who (now name)) ≡ true) × (at + 18 ≤ length (now line)) ⌝ }
+    ensures { λ r. ⌜ Put (now (line .entry)) (now (line .exit)) at r (whoField (whoOf who (now (name .entry))) ∷ []) × (r ≤ at + 18) ⌝ }
+{
+    match who {
+        Selection::Number(c) => put_hash(line, at, c),
+        Selection::LastName => put_name(line, at, name),
+    }
+}
+
+// The smaller of two lengths.
+fn smaller(a: usize, b: usize) -> usize
+    ensures { λ r. ⌜ (r ≤ a) × ((r ≤ b) × (r < a → r < b → ⊥)) ⌝ }
+{
+    if a < b {
+        return a;
+    }
+    b
+}
+
+// How many lines three lists hold.
+fn count(items: &[u64], supplies: &[u64], quantities: &[u64]) -> usize
+    ensures { λ r. ⌜ (r ≡ length (linesOf (now (items .entry)) (now (supplies .entry)) (now (quantities .entry)))) × ((r ≤ length (now (items .entry))) × ((r ≤ length (now (supplies .entry))) × (r ≤ length (now (quantities .entry))))) ⌝ }
+{
+    let n = smaller(items.len(), supplies.len());
+    smaller(n, quantities.len())
+}
+
+// The numbers of a line have at most ten digits.
+fn line_small(item: u64, supply: u64, quantity: u64) -> bool
+    ensures { λ r. ⌜ r ≡ lineSmall (record { item = item; supply = supply; quantity = quantity }) ⌝ }
+{
+    (item < 10000000000) & (supply < 10000000000) & (quantity < 10000000000)
+}
+
+// The numbers of all lines have at most ten digits.
+fn lines_small(items: &[u64], supplies: &[u64], quantities: &[u64]) -> bool
+    ensures { λ r. ⌜ r ≡ allOf lineSmall (linesOf (now (items .entry)) (now (supplies .entry)) (now (quantities .entry))) ⌝ }
+{
+    let n = count(items, supplies, quantities);
+    let mut i = 0;
+    while i < n {
+        if !line_small(items[i], supplies[i], quantities[i]) {
+            return false;
+        }
+        i += 1;
+    }
+    true
+}
+
+// The lines of an order, three numbers each.
+fn put_lines(
+    line: &mut [u8],
+    at: usize,
+    items: &[u64],
+    supplies: &[u64],
+    quantities: &[u64],
+) -> usize
+    requires { ⌜ (allOf lineSmall (linesOf (now items) (now supplies) (now quantities)) ≡ true) × (at + 33 * length (linesOf (now items) (now supplies) (now quantities)) ≤ length (now line)) ⌝ }
+    ensures { λ r. ⌜ Put (now (line .entry)) (now (line .exit)) at r (lineFields (linesOf (now (items .entry)) (now (supplies .entry)) (now (quantities .entry)))) × (r ≤ at + 33 * length (linesOf (now (items .entry)) (now (supplies .entry)) (now (quantities .entry)))) ⌝ }
+{
+    let n = count(items, supplies, quantities);
+    let mut p = at;
+    let mut i = 0;
+    while i < n {
+        p = put_three(line, p, items[i], supplies[i], quantities[i]);
+        i += 1;
+    }
+    p
+}
+
+// A Delivery's line, from the front.
+fn put_delivery(line: &mut [u8], q: Delivery) -> usize
+    requires { ⌜ (hasForm (delivery q) ≡ true) × (541 ≤ length (now line)) ⌝ }
+    ensures { λ r. ⌜ Whole (now (line .exit)) r (delivery q) ⌝ }
+{
+    line[0] = 68;
+    let p = put_three(line, 1, q.warehouse, q.carrier, q.date);
+    line[p] = 10;
+    p + 1
+}
+
+// A Stock-Level's line, from the front.
+fn put_stock_level(line: &mut [u8], q: StockLevel) -> usize
+    requires { ⌜ (hasForm (stockLevel q) ≡ true) × (541 ≤ length (now line)) ⌝ }
+    ensures { λ r. ⌜ Whole (now (line .exit)) r (stockLevel q) ⌝ }
+{
+    line[0] = 76;
+    let p = put_three(line, 1, q.warehouse, q.district, q.threshold);
+    line[p] = 10;
+    p + 1
+}
+
+// An Order-Status's line, from the front.
+fn put_order_status(line: &mut [u8], q: OrderStatus, who: Selection, name: &[u8]) -> usize
+    requires { ⌜ (hasForm (orderStatus q (whoOf who (now name))) ≡ true) × (541 ≤ length (now line)) ⌝ }
+    ensures { λ r. ⌜ Whole (now (line .exit)) r (orderStatus q (whoOf who (now (name .entry)))) ⌝ }
+{
+    line[0] = 83;
+    let a = put_two(line, 1, q.warehouse, q.district);
+    let p = put_who(line, a, who, name);
+    line[p] = 10;
+    p + 1
+}
+
+// A Payment's line, from the front.
+fn put_payment(line: &mut [u8], q: Payment, who: Selection, name: &[u8]) -> usize
+    requires { ⌜ (hasForm (payment q (whoOf who (now name))) ≡ true) × (541 ≤ length (now line)) ⌝ }
+    ensures { λ r. ⌜ Whole (now (line .exit)) r (payment q (whoOf who (now (name .entry)))) ⌝ }
+{
+    line[0] = 80;
+    let a = put_two(line, 1, q.warehouse, q.district);
+    let b = put_two(line, a, q.custwarehouse, q.custdistrict);
+    let c = put_who(line, b, who, name);
+    let p = put_two(line, c, q.date, q.amount);
+    line[p] = 10;
+    p + 1
+}
+
+// A New-Order's line, from the front.
+fn put_new_order(
+    line: &mut [u8],
+    q: NewOrder,
+    items: &[u64],
+    supplies: &[u64],
+    quantities: &[u64],
+) -> usize
+    requires { ⌜ (hasForm (newOrder q (linesOf (now items) (now supplies) (now quantities))) ≡ true) × (541 ≤ length (now line)) ⌝ }
+    ensures { λ r. ⌜ Whole (now (line .exit)) r (newOrder q (linesOf (now (items .entry)) (now (supplies .entry)) (now (quantities .entry)))) ⌝ }
+{
+    line[0] = 78;
+    let a = put_two(line, 1, q.warehouse, q.district);
+    let b = put_two(line, a, q.customer, q.date);
+    let p = put_lines(line, b, items, supplies, quantities);
+    line[p] = 10;
+    p + 1
+}
+
+// A request's line, from the front.
+fn put_line(
+    line: &mut [u8],
+    form: Form,
+    items: &[u64],
+    supplies: &[u64],
+    quantities: &[u64],
+    name: &[u8],
+) -> usize
+    requires { ⌜ (hasForm (requestOf form (linesOf (now items) (now supplies) (now quantities)) (now name)) ≡ true) × (541 ≤ length (now line)) ⌝ }
+    ensures { λ r. ⌜ Whole (now (line .exit)) r (requestOf form (linesOf (now (items .entry)) (now (supplies .entry)) (now (quantities .entry))) (now (name .entry))) ⌝ }
+{
+    match form {
+        Form::NewOrder(q) => put_new_order(line, q, items, supplies, quantities),
+        Form::Payment(q, who) => put_payment(line, q, who, name),
+        Form::Delivery(q) => put_delivery(line, q),
+        Form::OrderStatus(q, who) => put_order_status(line, q, who, name),
+        Form::StockLevel(q) => put_stock_level(line, q),
+    }
+}
+
+// A number has at most ten digits.
+fn small(n: u64) -> bool
+    ensures { λ r. ⌜ r ≡ hasDigits n ⌝ }
+{
+    n < 10000000000
+}
+
+// Who has a form.
+fn who_ok(who: Selection, name: &[u8]) -> bool
+    ensures { λ r. ⌜ r ≡ hasWho (whoOf who (now (name .entry))) ⌝ }
+{
+    match who {
+        Selection::Number(c) => small(c),
+        Selection::LastName => lines::name_ok(name),
+    }
+}
+
+// A Delivery has a form.
+fn delivery_ok(q: Delivery) -> bool
+    ensures { λ r. ⌜ r ≡ hasForm (delivery q) ⌝ }
+{
+    small(q.warehouse) & small(q.carrier) & small(q.date)
+}
+
+// A Stock-Level has a form.
+fn stock_level_ok(q: StockLevel) -> bool
+    ensures { λ r. ⌜ r ≡ hasForm (stockLevel q) ⌝ }
+{
+    small(q.warehouse) & small(q.district) & small(q.threshold)
+}
+
+// An Order-Status has a form.
+fn order_status_ok(q: OrderStatus, who: Selection, name: &[u8]) -> bool
+    ensures { λ r. ⌜ r ≡ hasForm (orderStatus q (whoOf who (now (name .entry)))) ⌝ }
+{
+    small(q.warehouse) & small(q.district) & who_ok(who, name)
+}
+
+// A Payment has a form.
+fn payment_ok(q: Payment, who: Selection, name: &[u8]) -> bool
+    ensures { λ r. ⌜ r ≡ hasForm (payment q (whoOf who (now (name .entry)))) ⌝ }
+{
+    small(q.warehouse)
+        & small(q.district)
+        & small(q.custwarehouse)
+        & small(q.custdistrict)
+        & who_ok(who, name)
+        & small(q.date)
+        & small(q.amount)
+}
+
+// A New-Order has a form.
+fn new_order_ok(q: NewOrder, items: &[u64], supplies: &[u64], quantities: &[u64]) -> bool
+    ensures { λ r. ⌜ r ≡ hasForm (newOrder q (linesOf (now (items .entry)) (now (supplies .entry)) (now (quantities .entry)))) ⌝ }
+{
+    let n = count(items, supplies, quantities);
+    small(q.warehouse)
+        & small(q.district)
+        & small(q.customer)
+        & small(q.date)
+        & (1 <= n)
+        & (n <= 15)
+        & lines_small(items, supplies, quantities)
+}
+
+// A request has a form.
+fn form_ok(form: Form, items: &[u64], supplies: &[u64], quantities: &[u64], name: &[u8]) -> bool
+    ensures { λ r. ⌜ r ≡ hasForm (requestOf form (linesOf (now (items .entry)) (now (supplies .entry)) (now (quantities .entry))) (now (name .entry))) ⌝ }
+{
+    match form {
+        Form::NewOrder(q) => new_order_ok(q, items, supplies, quantities),
+        Form::Payment(q, who) => payment_ok(q, who, name),
+        Form::Delivery(q) => delivery_ok(q),
+        Form::OrderStatus(q, who) => order_status_ok(q, who, name),
+        Form::StockLevel(q) => stock_level_ok(q),
+    }
+}
+
+// The answer where nothing is written.
+fn not_written() -> WriteAnswer
+    ensures { λ r. ⌜ r ≡ notWritten ⌝ }
+{
+    let outcome = WriteOutcome::Refused(Refusal {
+        number: 1,
+        detail: 0,
+    });
+    WriteAnswer { outcome }
+}
+
+// A request's line written to the front of a buffer; its length, or 1.
+pub fn write_line(
+    buffer: &mut [u8],
+    form: Form,
+    items: &[u64],
+    supplies: &[u64],
+    quantities: &[u64],
+    name: &[u8],
+) -> WriteAnswer
+    ensures { λ r. ⌜ (writeSays (r .outcome) ≡ writeAnswer (now (buffer .entry)) (requestOf form (linesOf (now (items .entry)) (now (supplies .entry)) (now (quantities .entry))) (now (name .entry)))) × (now (buffer .exit) ≡ writeBuffer (now (buffer .entry)) (requestOf form (linesOf (now (items .entry)) (now (supplies .entry)) (now (quantities .entry))) (now (name .entry)))) ⌝ }
+{
+    if form_ok(form, items, supplies, quantities, name) {
+        let mut line = [0u8; 541];
+        let n = put_line(&mut line, form, items, supplies, quantities, name);
+        if buffer.len() < n {
+            return not_written();
+        }
+        copy(buffer, 0, &line, n);
+        let outcome = WriteOutcome::Written(n as u64);
+        return WriteAnswer { outcome };
+    }
+    not_written()
+}
