@@ -93,9 +93,13 @@ col d s x y z k = place-col (shapes d) [] s x y z k
 
 module _ (b : List ℤ) (names : List ℕ) (q : Payment) (who : Who) where
   -- ── the stages of tests, each where the one before finds nothing ──
-  pub head-fault : headOk b (length names) ≡ false → nobody 2 ≡ payerBy (paymentFault b names q who) (payer (dims b) names q who)
-  unfolding paymentFault
-  head-fault e = rw e
+  pub head-answer : headOk b (length names) ≡ false → refused (record { number = 2; detail = 0 }) ≡ paymentAnswer b names q who
+  unfolding paymentAnswer paymentFault
+  head-answer e = rw e
+
+  pub head-book : headOk b (length names) ≡ false → b ≡ paymentBook b names q who
+  unfolding paymentBook paymentFault
+  head-book e = rw e
 
   asked-is : {d : Dims} → d ≡ dims b → headOk b (length names) ≡ true → fault (payAsked d q who) .number ≢ 0 → fault (payAsked d q who) ≡ paymentFault b names q who
   unfolding paymentFault

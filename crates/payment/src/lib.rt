@@ -7,7 +7,7 @@ ghost use lib.ListN.{length};
 ghost use Rattle.model.specs.Tests.{every, fault};
 ghost use Rattle.model.specs.Numbers.{maxDate};
 ghost use Rattle.model.specs.Layout.{nameBytes};
-ghost use Rattle.model.specs.Head.{dims};
+ghost use Rattle.model.specs.Head.{dims, headOk};
 ghost use Rattle.model.specs.Names.{whoOf, whoTests, customerOf};
 ghost use Rattle.model.specs.Used.{whoUsed};
 ghost use Rattle.model.specs.Answer.{paymentSays};
@@ -185,14 +185,11 @@ fn used(b: &[i64], names: &[u8], d: Dims, q: Payment, who: Selection, name: &[u8
     }
 }
 
-// The first refusal of a payment, and who pays where there is none.
-fn payer_of(b: &[i64], names: &[u8], q: Payment, who: Selection, name: &[u8]) -> Payer
+// The first refusal of a payment on a book whose head is in range, and who pays where there is none.
+fn payer_of(b: &[i64], names: &[u8], d: Dims, q: Payment, who: Selection, name: &[u8]) -> Payer
+    requires { ⌜ (d ≡ dims (now b)) × (headOk (now b) (length (now names)) ≡ true) ⌝ }
     ensures { λ r. ⌜ r ≡ payerBy (paymentFault (now (b .entry)) (now (names .entry)) q (whoOf who (now (name .entry)))) (payer (dims (now (b .entry))) (now (names .entry)) q (whoOf who (now (name .entry)))) ⌝ }
 {
-    if !layout::head_ok(b, names) {
-        return refused(2);
-    }
-    let d = layout::dims_of(b);
     let refusal = asked(d, q, who, name);
     if refusal.number == 0 {
         return used(b, names, d, q, who, name);
@@ -266,11 +263,10 @@ fn store_plan(b: &mut [i64], p: Plan, q: Payment, c: u64)
 }
 
 // A payment by customer c that no refusal applies to; answers the balance.
-fn commit(b: &mut [i64], q: Payment, c: u64) -> i64
-    requires { ⌜ Payable (dims (now b)) (now b) q c ⌝ }
-    ensures { λ r. ⌜ (r ≡ paidBalance (dims (now (b .entry))) (now (b .entry)) q c) × (now (b .exit) ≡ paymentCommit (dims (now (b .entry))) (now (b .entry)) q c) ⌝ }
+fn commit(b: &mut [i64], d: Dims, q: Payment, c: u64) -> i64
+    requires { ⌜ Payable d (now b) q c ⌝ }
+    ensures { λ r. ⌜ (r ≡ paidBalance d (now (b .entry)) q c) × (now (b .exit) ≡ paymentCommit d (now (b .entry)) q c) ⌝ }
 {
-    let d = layout::dims_of(b);
     let p = plan_of(b, d, q, c);
     store_plan(b, p, q, c);
     p.newbalance
@@ -286,10 +282,19 @@ pub fn payment(
 ) -> PaymentAnswer
     ensures { λ r. ⌜ (paymentSays (r .outcome) ≡ paymentAnswer (now (b .entry)) (now (names .entry)) q (whoOf who (now (name .entry)))) × (now (b .exit) ≡ paymentBook (now (b .entry)) (now (names .entry)) q (whoOf who (now (name .entry)))) ⌝ }
 {
-    let payer = payer_of(b, names, q, who, name);
+    if !layout::head_ok(b, names) {
+        let refusal = Refusal {
+            number: 2,
+            detail: 0,
+        };
+        let outcome = PaymentOutcome::Refused(refusal);
+        return PaymentAnswer { outcome };
+    }
+    let d = layout::dims_of(b);
+    let payer = payer_of(b, names, d, q, who, name);
     let refusal = payer.refusal;
     if refusal.number == 0 {
-        let balance = commit(b, q, payer.customer);
+        let balance = commit(b, d, q, payer.customer);
         let outcome = PaymentOutcome::Committed(PaymentFigures {
             customer: payer.customer,
             balance,
