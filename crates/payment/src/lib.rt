@@ -127,7 +127,7 @@ fn refused(number: u64) -> Payer
     }
 }
 
-// Customer c pays where the history has room for one row more.
+// Customer c pays where the history has room for one row more. Names stand in the contract alone, as in by_number.
 fn with_room(b: &[i64], names: &[u8], d: Dims, q: Payment, c: u64) -> Payer
     requires { ⌜ Shaped d (now b) (length (now names)) ⌝ }
     ensures { λ r. ⌜ r ≡ payerBy (fault (drop 4 (payUsed d (now (b .entry)) (now (names .entry)) q (byNumber c)))) c ⌝ }
