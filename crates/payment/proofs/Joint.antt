@@ -8,7 +8,7 @@ use Prim.Native.Nat.{ℕ, suc, _+_, _≤_}
 use native.Mathlib.Numerals.{add-one}
 use native.Mathlib.Omega.{arith}
 use borrow.Author.Tests.{eq-eqb, ne-eqb}
-use lib.ListN.{length, set, length-set}
+use lib.ListN.{length, drop, set, length-set}
 use lib.IntN.{ℤ, pos, _+ℤ_, _-ℤ_}
 use Rattle.model.specs.declared.Dims.{Dims}
 use Rattle.model.specs.declared.Payment.{Payment}
@@ -19,6 +19,7 @@ use Rattle.model.specs.Answer.{committed, refused}
 use Rattle.model.specs.Layout.{at, shapes, place, numbers, total}
 use Rattle.model.specs.Store.{get, num}
 use Rattle.model.specs.Names.{Who}
+use Rattle.model.specs.Used.{warehouseUsed, districtUsed}
 use Rattle.model.specs.Rows.{historyCount, warehouseYtd, districtYtd, balance, ytdPayment, paymentCnt, historyRow}
 use Rattle.model.specs.Payment.{payAsked, payUsed, paymentFault, payer, payOps, paymentCommit, paidBalance, paymentAnswer, paymentBook, historyNumbers}
 use Rattle.model.proofs.NumberLaws.{raised}
@@ -93,9 +94,18 @@ col d s x y z k = place-col (shapes d) [] s x y z k
 
 module _ (b : List ℤ) (names : List ℕ) (q : Payment) (who : Who) where
   -- ── the stages of tests, each where the one before finds nothing ──
-  pub head-fault : headOk b (length names) ≡ false → nobody 2 ≡ payerBy (paymentFault b names q who) (payer (dims b) names q who)
-  unfolding paymentFault
-  head-fault e = rw e
+  pub used-rest : (d : Dims) {p : Payer} → warehouseUsed d b (q .warehouse) ≡ true → districtUsed d b (q .warehouse) (q .district) ≡ true
+      → p ≡ payerBy (fault (drop 2 (payUsed d b names q who))) (payer d names q who) → p ≡ payerBy (fault (payUsed d b names q who)) (payer d names q who)
+  unfolding payUsed
+  used-rest d e f g = rw (e, f) g
+
+  pub head-answer : headOk b (length names) ≡ false → refused (record { number = 2; detail = 0 }) ≡ paymentAnswer b names q who
+  unfolding paymentAnswer paymentFault
+  head-answer e = rw e
+
+  pub head-book : headOk b (length names) ≡ false → b ≡ paymentBook b names q who
+  unfolding paymentBook paymentFault
+  head-book e = rw e
 
   asked-is : {d : Dims} → d ≡ dims b → headOk b (length names) ≡ true → fault (payAsked d q who) .number ≢ 0 → fault (payAsked d q who) ≡ paymentFault b names q who
   unfolding paymentFault

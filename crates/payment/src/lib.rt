@@ -3,20 +3,16 @@ ghost use mathlib.Core.Bool.{true};
 ghost use mathlib.Core.List.{[], _∷_};
 ghost use Prim.Native.Nat.{_+_, _≤_};
 ghost use lib.Dec.{leb};
-ghost use lib.ListN.{length};
+ghost use lib.ListN.{length, drop};
 ghost use Rattle.model.specs.Tests.{every, fault};
 ghost use Rattle.model.specs.Numbers.{maxDate};
-ghost use Rattle.model.specs.Layout.{nameBytes};
-ghost use Rattle.model.specs.Head.{dims};
-ghost use Rattle.model.specs.Names.{whoOf, whoTests, customerOf};
-ghost use Rattle.model.specs.Used.{whoUsed};
+ghost use Rattle.model.specs.Head.{dims, headOk};
+ghost use Rattle.model.specs.Names.{byNumber, byName, whoOf};
 ghost use Rattle.model.specs.Answer.{paymentSays};
 ghost use Rattle.model.specs.Payment.{payAsked, payUsed, paymentFault, payer, historyNumbers, paidBalance, paymentCommit, paymentAnswer, paymentBook};
-ghost use Rattle.model.specs.Claim.{R};
-ghost use Rattle.model.proofs.Fields.{Dimensioned, Shaped};
+ghost use Rattle.model.proofs.Fields.{Shaped};
 ghost use Rattle.model.proofs.PaymentFacts.{PayAsked};
 ghost use Rattle.model.proofs.Rewrite.{puts};
-ghost use Rattle.rows.specs.Book.{Booked};
 ghost use Rattle.payment.specs.Plan.{payerBy, nobody, Payable, planOf, Storable, Small, storePlan};
 use model::Dims;
 use model::Found;
@@ -131,46 +127,11 @@ fn refused(number: u64) -> Payer
     }
 }
 
-// The customer that a request names, by number or by last name.
-fn customer_of(names: &[u8], d: Dims, w: u64, k: u64, who: Selection, name: &[u8]) -> Found
-    requires { ⌜ Dimensioned d × (R (d .warehouses) w × (R 10 k × (length (now names) ≡ nameBytes d))) ⌝ }
-    ensures { λ r. ⌜ r ≡ customerOf d (now (names .entry)) w k (whoOf who (now (name .entry))) ⌝ }
+// Customer c pays where the history has room for one row more. Names stand in the contract alone, as in by_number.
+fn with_room(b: &[i64], names: &[u8], d: Dims, q: Payment, c: u64) -> Payer
+    requires { ⌜ Shaped d (now b) (length (now names)) ⌝ }
+    ensures { λ r. ⌜ r ≡ payerBy (fault (drop 4 (payUsed d (now (b .entry)) (now (names .entry)) q (byNumber c)))) c ⌝ }
 {
-    match who {
-        Selection::Number(c) => Found::Customer(c),
-        Selection::LastName => lookup::find(names, d, w, k, name),
-    }
-}
-
-// The row of a customer given by number is in range, or by last name all rows and names of the district's customers.
-fn who_used(b: &[i64], names: &[u8], d: Dims, w: u64, k: u64, who: Selection, name: &[u8]) -> bool
-    requires { ⌜ Booked d (now b) × (R (d .warehouses) w × (R 10 k × ((length (now names) ≡ nameBytes d) × (every (whoTests d (whoOf who (now name))) ≡ true)))) ⌝ }
-    ensures { λ r. ⌜ r ≡ whoUsed d (now (b .entry)) (now (names .entry)) w k (whoOf who (now (name .entry))) ⌝ }
-{
-    match who {
-        Selection::Number(c) => rows::customer_used(b, d, w, k, c),
-        Selection::LastName => lookup::named_used(b, names, d, w, k),
-    }
-}
-
-// The first refusal that the rows and names decide, and who pays.
-fn used(b: &[i64], names: &[u8], d: Dims, q: Payment, who: Selection, name: &[u8]) -> Payer
-    requires { ⌜ Shaped d (now b) (length (now names)) × PayAsked d q (whoOf who (now name)) ⌝ }
-    ensures { λ r. ⌜ r ≡ payerBy (fault (payUsed d (now (b .entry)) (now (names .entry)) q (whoOf who (now (name .entry))))) (payer d (now (names .entry)) q (whoOf who (now (name .entry)))) ⌝ }
-{
-    if !rows::warehouse_used(b, d, q.warehouse) {
-        return refused(9);
-    }
-    if !rows::district_used(b, d, q.warehouse, q.district) {
-        return refused(9);
-    }
-    if !who_used(b, names, d, q.custwarehouse, q.custdistrict, who, name) {
-        return refused(9);
-    }
-    let found = customer_of(names, d, q.custwarehouse, q.custdistrict, who, name);
-    let Found::Customer(c) = found else {
-        return refused(10);
-    };
     let row = rows::history_count(b, d) + 1;
     if d.histories < row {
         return refused(11);
@@ -185,14 +146,54 @@ fn used(b: &[i64], names: &[u8], d: Dims, q: Payment, who: Selection, name: &[u8
     }
 }
 
-// The first refusal of a payment, and who pays where there is none.
-fn payer_of(b: &[i64], names: &[u8], q: Payment, who: Selection, name: &[u8]) -> Payer
+// What is decided after warehouse and district, of a customer given by number.
+fn by_number(b: &[i64], names: &[u8], d: Dims, q: Payment, c: u64) -> Payer
+    requires { ⌜ Shaped d (now b) (length (now names)) × PayAsked d q (byNumber c) ⌝ }
+    ensures { λ r. ⌜ r ≡ payerBy (fault (drop 2 (payUsed d (now (b .entry)) (now (names .entry)) q (byNumber c)))) (payer d (now (names .entry)) q (byNumber c)) ⌝ }
+{
+    if !rows::customer_used(b, d, q.custwarehouse, q.custdistrict, c) {
+        return refused(9);
+    }
+    with_room(b, names, d, q, c)
+}
+
+// The same of a customer given by last name.
+fn by_name(b: &[i64], names: &[u8], d: Dims, q: Payment, name: &[u8]) -> Payer
+    requires { ⌜ Shaped d (now b) (length (now names)) × PayAsked d q (byName (now name)) ⌝ }
+    ensures { λ r. ⌜ r ≡ payerBy (fault (drop 2 (payUsed d (now (b .entry)) (now (names .entry)) q (byName (now (name .entry)))))) (payer d (now (names .entry)) q (byName (now (name .entry)))) ⌝ }
+{
+    if !lookup::named_used(b, names, d, q.custwarehouse, q.custdistrict) {
+        return refused(9);
+    }
+    let found = lookup::find(names, d, q.custwarehouse, q.custdistrict, name);
+    let Found::Customer(c) = found else {
+        return refused(10);
+    };
+    with_room(b, names, d, q, c)
+}
+
+// The first refusal that the rows and names decide, and who pays.
+fn used(b: &[i64], names: &[u8], d: Dims, q: Payment, who: Selection, name: &[u8]) -> Payer
+    requires { ⌜ Shaped d (now b) (length (now names)) × PayAsked d q (whoOf who (now name)) ⌝ }
+    ensures { λ r. ⌜ r ≡ payerBy (fault (payUsed d (now (b .entry)) (now (names .entry)) q (whoOf who (now (name .entry))))) (payer d (now (names .entry)) q (whoOf who (now (name .entry)))) ⌝ }
+{
+    if !rows::warehouse_used(b, d, q.warehouse) {
+        return refused(9);
+    }
+    if !rows::district_used(b, d, q.warehouse, q.district) {
+        return refused(9);
+    }
+    match who {
+        Selection::Number(c) => by_number(b, names, d, q, c),
+        Selection::LastName => by_name(b, names, d, q, name),
+    }
+}
+
+// The first refusal of a payment on a book whose head is in range, and who pays where there is none.
+fn payer_of(b: &[i64], names: &[u8], d: Dims, q: Payment, who: Selection, name: &[u8]) -> Payer
+    requires { ⌜ (d ≡ dims (now b)) × (headOk (now b) (length (now names)) ≡ true) ⌝ }
     ensures { λ r. ⌜ r ≡ payerBy (paymentFault (now (b .entry)) (now (names .entry)) q (whoOf who (now (name .entry)))) (payer (dims (now (b .entry))) (now (names .entry)) q (whoOf who (now (name .entry)))) ⌝ }
 {
-    if !layout::head_ok(b, names) {
-        return refused(2);
-    }
-    let d = layout::dims_of(b);
     let refusal = asked(d, q, who, name);
     if refusal.number == 0 {
         return used(b, names, d, q, who, name);
@@ -266,11 +267,10 @@ fn store_plan(b: &mut [i64], p: Plan, q: Payment, c: u64)
 }
 
 // A payment by customer c that no refusal applies to; answers the balance.
-fn commit(b: &mut [i64], q: Payment, c: u64) -> i64
-    requires { ⌜ Payable (dims (now b)) (now b) q c ⌝ }
-    ensures { λ r. ⌜ (r ≡ paidBalance (dims (now (b .entry))) (now (b .entry)) q c) × (now (b .exit) ≡ paymentCommit (dims (now (b .entry))) (now (b .entry)) q c) ⌝ }
+fn commit(b: &mut [i64], d: Dims, q: Payment, c: u64) -> i64
+    requires { ⌜ Payable d (now b) q c ⌝ }
+    ensures { λ r. ⌜ (r ≡ paidBalance d (now (b .entry)) q c) × (now (b .exit) ≡ paymentCommit d (now (b .entry)) q c) ⌝ }
 {
-    let d = layout::dims_of(b);
     let p = plan_of(b, d, q, c);
     store_plan(b, p, q, c);
     p.newbalance
@@ -286,10 +286,19 @@ pub fn payment(
 ) -> PaymentAnswer
     ensures { λ r. ⌜ (paymentSays (r .outcome) ≡ paymentAnswer (now (b .entry)) (now (names .entry)) q (whoOf who (now (name .entry)))) × (now (b .exit) ≡ paymentBook (now (b .entry)) (now (names .entry)) q (whoOf who (now (name .entry)))) ⌝ }
 {
-    let payer = payer_of(b, names, q, who, name);
+    if !layout::head_ok(b, names) {
+        let refusal = Refusal {
+            number: 2,
+            detail: 0,
+        };
+        let outcome = PaymentOutcome::Refused(refusal);
+        return PaymentAnswer { outcome };
+    }
+    let d = layout::dims_of(b);
+    let payer = payer_of(b, names, d, q, who, name);
     let refusal = payer.refusal;
     if refusal.number == 0 {
-        let balance = commit(b, q, payer.customer);
+        let balance = commit(b, d, q, payer.customer);
         let outcome = PaymentOutcome::Committed(PaymentFigures {
             customer: payer.customer,
             balance,

@@ -1,67 +1,34 @@
 use Rattle.model.specs.declared.Refusal.{Refusal}
 use Rattle.model.proofs.PaymentFacts.{pay-asked}
 use Rattle.model.proofs.Fields.{head-shaped}
-use Rattle.payment.proofs.Joint.{head-fault, asked-fault, used-fault}
-use borrow.Author.Tests.{not-true, not-false}
-use Prim.Native.Nat.{_-_}
+use Rattle.payment.proofs.Joint.{asked-fault, used-fault}
 use mathlib.Core.Path.{sym, ap, _∙_}
 use borrow.Author.Needs.{needs}
 use Rattle.payment.proofs.payer_of.Statement.{statement}
 use Rattle.payment.proofs.payer_of.Tie as tie
 use Rattle.payment.proofs.payer_of.Reads as reads
 use Rattle.payment.proofs.payer_of.Lts as lts
-use Rattle.layout.proofs.dims_of.Reads as dims-of-reads
-use Rattle.layout.proofs.head_ok.Reads as head-ok-reads
 use Rattle.payment.proofs.asked.Reads as asked-reads
-use Rattle.payment.proofs.refused.Reads as refused-reads
 use Rattle.payment.proofs.used.Reads as used-reads
 
--- src/lib.rt:143:9
-head-ok-requires : tie.Need-head-ok-requires
-head-ok-requires c κs = search needs
-
--- src/lib.rt:144:9
-refused-requires : tie.Need-refused-requires
-refused-requires c κs = search needs
-
--- src/lib.rt:144:9
-returns : tie.Need-returns
-returns c =
-    c .refused .ensures ∙ head-fault _ _ _ _ (sym (c .before .before .head-ok .ensures) ∙ not-true (c .before .before .head-ok .result) (c .before .if1 .taken))
-
--- src/lib.rt:146:9
-dims-of-requires : tie.Need-dims-of-requires
-dims-of-requires c κs =
-    head-shaped _ _ (sym (c .before .head-ok .ensures) ∙ not-false (c .before .head-ok .result) (c .if1 .left)) .six
-
--- src/lib.rt:147:9
+-- src/lib.rt:193:9
 asked-requires : tie.Need-asked-requires
 asked-requires c κs = search needs
 
--- src/lib.rt:149:9
+-- src/lib.rt:195:9
 used-requires : tie.Need-used-requires
 used-requires c κs =
-    (rw (c .before .before .before .dims-of .ensures) (head-shaped _ _ (sym (c .before .before .before .before .before .head-ok .ensures) ∙ not-false (c .before .before .before .before .before .head-ok .result) (c .before .before .before .before .if1 .left))), pay-asked _ _ _ (ap (λ (x : Refusal). x .number) (sym (c .before .before .asked .ensures)) ∙ c .if2 .taken))
+    (rw (c .before .before .before .before .before .pre .0) (head-shaped _ _ (c .before .before .before .before .before .pre .1)), pay-asked _ _ _ (ap (λ (x : Refusal). x .number) (sym (c .before .before .asked .ensures)) ∙ c .if1 .taken))
 
--- src/lib.rt:149:9
+-- src/lib.rt:195:9
+returns : tie.Need-returns
+returns c =
+    used-fault _ _ _ _ (c .before .before .before .before .before .before .pre .0) (c .before .before .before .before .before .before .pre .1) (ap (λ (x : Refusal). x .number) (sym (c .before .before .before .asked .ensures)) ∙ c .before .if1 .taken) (c .used .ensures)
+
+-- src/lib.rt:189:1
 returns-2 : tie.Need-returns-2
 returns-2 c =
-    used-fault _ _ _ _ (c .before .before .before .before .dims-of .ensures) (sym (c .before .before .before .before .before .before .head-ok .ensures) ∙ not-false (c .before .before .before .before .before .before .head-ok .result) (c .before .before .before .before .before .if1 .left)) (ap (λ (x : Refusal). x .number) (sym (c .before .before .before .asked .ensures)) ∙ c .before .if2 .taken) (c .used .ensures)
-
--- src/lib.rt:140:1
-returns-3 : tie.Need-returns-3
-returns-3 c =
-    asked-fault _ _ _ _ (c .before .before .before .dims-of .ensures) (sym (c .before .before .before .before .before .head-ok .ensures) ∙ not-false (c .before .before .before .before .before .head-ok .result) (c .before .before .before .before .if1 .left)) (c .before .before .asked .ensures) (c .if2 .left)
+    asked-fault _ _ _ _ (c .before .before .before .before .before .pre .0) (c .before .before .before .before .before .pre .1) (c .before .before .asked .ensures) (c .if1 .left)
 
 pub payer-of-spec : {M : Type 1} → statement M
-payer-of-spec =
-    tie.close
-    (tie.spec
-    head-ok-requires
-    refused-requires
-    returns
-    dims-of-requires
-    asked-requires
-    used-requires
-    returns-2
-    returns-3)
+payer-of-spec = tie.close (tie.spec asked-requires used-requires returns returns-2)

@@ -1,0 +1,75 @@
+use Rattle.model.specs.Names.{customerOf}
+use Rattle.model.specs.Used.{whoUsed}
+use Rattle.model.specs.Payment.{payUsed, payer}
+use borrow.Author.Tests.{not-true, not-false}
+use mathlib.Core.Path.{_∙_}
+use borrow.Author.Needs.{needs}
+use Rattle.payment.proofs.by_name.Statement.{statement}
+use Rattle.payment.proofs.by_name.Tie as tie
+use Rattle.payment.proofs.by_name.Reads as reads
+use Rattle.payment.proofs.by_name.Lts as lts
+use Rattle.lookup.proofs.find.Reads as find-reads
+use Rattle.lookup.proofs.named_used.Reads as named-used-reads
+use Rattle.payment.proofs.refused.Reads as refused-reads
+use Rattle.payment.proofs.with_room.Reads as with-room-reads
+
+-- src/lib.rt:165:9
+named-used-requires : tie.Need-named-used-requires
+named-used-requires c κs = search needs
+
+-- src/lib.rt:166:9
+refused-requires : tie.Need-refused-requires
+refused-requires c κs = search needs
+
+-- src/lib.rt:166:9
+returns : tie.Need-returns
+unfolding payUsed whoUsed
+returns c =
+    c .refused .ensures ∙ simp (← c .before .before .named-used .ensures, not-true (c .before .before .named-used .result) (c .before .if1 .taken))
+
+-- src/lib.rt:168:9
+find-requires : tie.Need-find-requires
+find-requires c κs = search needs
+
+-- src/lib.rt:169:25
+enum-known-found : tie.Need-enum-known-found
+enum-known-found c = search needs
+
+-- src/lib.rt:170:9
+enum-told : tie.Need-enum-told
+enum-told c = search needs
+
+-- src/lib.rt:170:9
+refused-requires-2 : tie.Need-refused-requires-2
+refused-requires-2 c κs = search needs
+
+-- src/lib.rt:170:9
+returns-2 : tie.Need-returns-2
+unfolding payUsed whoUsed customerOf
+returns-2 c =
+    c .refused2 .ensures ∙ simp (← c .before .before .before .before .before .named-used .ensures, not-false (c .before .before .before .before .before .named-used .result) (c .before .before .before .before .if1 .left), ← c .before .before .before .find .ensures, c .before .enum-told .given .1)
+
+-- src/lib.rt:172:5
+with-room-requires : tie.Need-with-room-requires
+with-room-requires c κs = search needs
+
+-- src/lib.rt:161:1
+returns-3 : tie.Need-returns-3
+unfolding payUsed whoUsed customerOf payer
+returns-3 c =
+    c .with-room .ensures ∙ simp (← c .before .before .before .before .before .before .named-used .ensures, not-false (c .before .before .before .before .before .before .named-used .result) (c .before .before .before .before .before .if1 .left), ← c .before .before .before .before .find .ensures, c .before .before .found .given .1)
+
+pub by-name-spec : {M : Type 1} → statement M
+by-name-spec =
+    tie.close
+    (tie.spec
+    named-used-requires
+    refused-requires
+    returns
+    find-requires
+    enum-known-found
+    enum-told
+    refused-requires-2
+    returns-2
+    with-room-requires
+    returns-3)
