@@ -2,3 +2,4 @@
 pub mod Filled
 pub mod Telling
 pub mod Blocks
+pub mod Overlong

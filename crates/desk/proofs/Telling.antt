@@ -3,7 +3,7 @@
 use mathlib.Core.Path.{_≡_, refl, sym, ap, _∙_, subst}
 use mathlib.Core.Bool.{Bool, true, false, cond}
 use mathlib.Core.List.{List, [], _∷_, _++_}
-use Prim.Native.Nat.{ℕ, zero, suc, _+_, _-_, _*_, _≤_, _<_}
+use Prim.Native.Nat.{ℕ, zero, suc, _+_, _-_, _≤_, _<_}
 use native.Mathlib.Nat.{le-trans, mul-le-mul-right}
 use native.Mathlib.Omega.{arith}
 use lib.Dec.{eqb}
@@ -12,11 +12,9 @@ use lib.ListN.{length, take, drop, replicate, length-append}
 use lib.Seq.{take-at}
 use borrow.Author.Tests.{eqb-true, le-leb, lt-leb}
 use Rattle.model.specs.declared.Form.{Form}
-use Rattle.model.specs.declared.Form.the-variants as Form
 use Rattle.model.specs.declared.Line.{Line}
 use Rattle.model.specs.declared.OrderStatus.{OrderStatus}
 use Rattle.model.specs.declared.ReadAnswer.{ReadAnswer}
-use Rattle.model.specs.declared.ReadOutcome.{ReadOutcome}
 use Rattle.model.specs.declared.ReadOutcome.the-variants as ReadCase
 use Rattle.model.specs.declared.Refusal.{Refusal}
 use Rattle.model.specs.declared.RequestAnswer.{RequestAnswer}
@@ -26,9 +24,9 @@ use Rattle.model.specs.Answer.{Answer, committed, refused, requestSays}
 use Rattle.model.specs.Names.{Who, byNumber, byName, whoOf}
 use Rattle.model.specs.Head.{dims}
 use Rattle.model.specs.OrderStatus.{statusFault, statusOrder, linesShown, statusLines}
-use Rattle.model.specs.Request.{Request, newOrder, payment, delivery, orderStatus, stockLevel, requestOf, linesOf, answerOf, ordersOf, shownOf, partOf, after}
+use Rattle.model.specs.Request.{Request, newOrder, payment, delivery, orderStatus, stockLevel, linesOf, shownOf, partOf, after}
 use Rattle.model.specs.RequestLine.{letter, Reading, read, noForm, padTo, itemsOf, suppliesOf, quantitiesOf, selection, nameOfWho, storedLines, storedName, stored, readLine}
-use Rattle.model.specs.AnswerLine.{printed, told, textOf, answerLine, noFormLine, printedFor, leftAfter}
+use Rattle.model.specs.AnswerLine.{printed, told, answerLine, noFormLine, printedFor, leftAfter}
 use Rattle.model.proofs.StatusFacts.{StatusUsed, status-ready, last-in}
 use Rattle.engine.specs.Carried.{Carried, lettered}
 use Rattle.answers.specs.Writing.{sample, outcomeLine, hasRoom, withLine, lengthIf}

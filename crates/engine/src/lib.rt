@@ -1,5 +1,4 @@
 // One request of any kind, carried out on the book.
-ghost use mathlib.Core.Path.{_≡_};
 ghost use Rattle.model.specs.Names.{whoOf};
 ghost use Rattle.model.specs.Request.{requestOf, linesOf, newOrder, payment, delivery, orderStatus, stockLevel};
 ghost use Rattle.engine.specs.Carried.{Carried};

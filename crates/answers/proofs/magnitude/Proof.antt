@@ -1,6 +1,5 @@
 use Rattle.cells.proofs.Signed.{tested, cast-asks}
 use Rattle.answers.proofs.Putting.{turned, kept}
-use borrow.Author.Needs.{needs}
 use Rattle.answers.proofs.magnitude.Statement.{statement}
 use Rattle.answers.proofs.magnitude.Tie as tie
 use Rattle.answers.proofs.magnitude.Reads as reads

@@ -7,7 +7,7 @@ use lib.IntN.{natAbs}
 use mir.Facts.{toZ-ofZ}
 use Rattle.cells.proofs.Signed.{tested}
 use lib.ListN.{length-set}
-use Rattle.answers.proofs.Putting.{magnitude-few, decimals-few, decimals-most, put-plain, put-minus}
+use Rattle.answers.proofs.Putting.{magnitude-few, decimals-few, put-plain, put-minus}
 use borrow.Author.Needs.{needs}
 use Rattle.answers.proofs.put_int.Statement.{statement}
 use Rattle.answers.proofs.put_int.Tie as tie

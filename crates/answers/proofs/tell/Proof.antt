@@ -1,4 +1,3 @@
-use mathlib.Core.Path.{sym}
 use Rattle.answers.proofs.Putting.{new-order-alone, payment-alone, delivery-alone, status-alone, stock-level-alone}
 use borrow.Author.Needs.{needs}
 use Rattle.answers.proofs.tell.Statement.{statement}

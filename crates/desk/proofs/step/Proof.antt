@@ -1,4 +1,3 @@
-use native.Mathlib.Omega.{arith}
 use mathlib.Core.Path.{refl}
 use Rattle.desk.proofs.Telling.{step-read, step-held, step-none, told-read, told-none, told-nothing}
 use borrow.Author.Needs.{needs}
