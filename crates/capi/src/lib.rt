@@ -305,8 +305,29 @@ pub fn number_out(s: Selection) -> u64
     }
 }
 
+// A New-Order that was read.
+fn order_form(q: NewOrder, count: u64, length: u64) -> [u64; 13]
+    ensures { λ r. ⌜ r ≡ formOut (Form.NewOrder q) count length ⌝ }
+{
+    [
+        0,
+        0,
+        78,
+        q.warehouse,
+        q.district,
+        q.customer,
+        q.date,
+        0,
+        0,
+        0,
+        0,
+        count,
+        length,
+    ]
+}
+
 // A Payment that was read.
-pub fn payment_form(q: Payment, who: Selection, count: u64, length: u64) -> [u64; 13]
+fn payment_form(q: Payment, who: Selection, count: u64, length: u64) -> [u64; 13]
     ensures { λ r. ⌜ r ≡ formOut (Form.Payment q who) count length ⌝ }
 {
     let named = named_out(who);
@@ -328,8 +349,29 @@ pub fn payment_form(q: Payment, who: Selection, count: u64, length: u64) -> [u64
     ]
 }
 
+// A Delivery that was read.
+fn delivery_form(q: Delivery, count: u64, length: u64) -> [u64; 13]
+    ensures { λ r. ⌜ r ≡ formOut (Form.Delivery q) count length ⌝ }
+{
+    [
+        0,
+        0,
+        68,
+        q.warehouse,
+        q.carrier,
+        q.date,
+        0,
+        0,
+        0,
+        0,
+        0,
+        count,
+        length,
+    ]
+}
+
 // An Order-Status that was read.
-pub fn status_form(q: OrderStatus, who: Selection, count: u64, length: u64) -> [u64; 13]
+fn status_form(q: OrderStatus, who: Selection, count: u64, length: u64) -> [u64; 13]
     ensures { λ r. ⌜ r ≡ formOut (Form.OrderStatus q who) count length ⌝ }
 {
     let named = named_out(who);
@@ -351,58 +393,37 @@ pub fn status_form(q: OrderStatus, who: Selection, count: u64, length: u64) -> [
     ]
 }
 
+// A Stock-Level that was read.
+fn level_form(q: StockLevel, count: u64, length: u64) -> [u64; 13]
+    ensures { λ r. ⌜ r ≡ formOut (Form.StockLevel q) count length ⌝ }
+{
+    [
+        0,
+        0,
+        76,
+        q.warehouse,
+        q.district,
+        q.threshold,
+        0,
+        0,
+        0,
+        0,
+        0,
+        count,
+        length,
+    ]
+}
+
 // A request that was read: its letter, its numbers but who, whether by name, the customer number, how many lines, how long the name.
-pub fn form_out(form: Form, count: u64, length: u64) -> [u64; 13]
+fn form_out(form: Form, count: u64, length: u64) -> [u64; 13]
     ensures { λ r. ⌜ r ≡ formOut form count length ⌝ }
 {
     match form {
-        Form::NewOrder(q) => [
-            0,
-            0,
-            78,
-            q.warehouse,
-            q.district,
-            q.customer,
-            q.date,
-            0,
-            0,
-            0,
-            0,
-            count,
-            length,
-        ],
+        Form::NewOrder(q) => order_form(q, count, length),
         Form::Payment(q, who) => payment_form(q, who, count, length),
-        Form::Delivery(q) => [
-            0,
-            0,
-            68,
-            q.warehouse,
-            q.carrier,
-            q.date,
-            0,
-            0,
-            0,
-            0,
-            0,
-            count,
-            length,
-        ],
+        Form::Delivery(q) => delivery_form(q, count, length),
         Form::OrderStatus(q, who) => status_form(q, who, count, length),
-        Form::StockLevel(q) => [
-            0,
-            0,
-            76,
-            q.warehouse,
-            q.district,
-            q.threshold,
-            0,
-            0,
-            0,
-            0,
-            0,
-            count,
-            length,
-        ],
+        Form::StockLevel(q) => level_form(q, count, length),
     }
 }
 
