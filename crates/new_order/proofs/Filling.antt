@@ -14,7 +14,7 @@ use Rattle.model.specs.declared.NewOrder.{NewOrder}
 use Rattle.model.specs.Store.{remap}
 use Rattle.model.specs.NewOrder.{amountsOf, lineNumbers}
 use Rattle.model.proofs.Frame.{length-remap}
-use Rattle.model.proofs.Rewrite.{remap-none, remap-more, puts, puts-row}
+use Rattle.model.proofs.Rewrite.{remap-none, remap-more, off, puts, puts-row}
 use Rattle.model.specs.Request.{linesOf, lineAt}
 use Rattle.new_order.specs.Slot.{headNumbers, five, numbersBy, fill}
 use Rattle.model.proofs.Zipped.{noLine, line-is}
@@ -38,6 +38,24 @@ pub remap-same : (p m : ℕ) (f g : ℕ → ℤ → ℤ) (b : List ℤ) → p + 
 remap-same p m f g b h e =
     let t = remap-then p 0 m f g b (omega arith) (λ i y z l. ap (λ (j : ℕ). f j y) (zero-add i) ∙ e i y z l) in
     rw (add-zero p, remap-none p 0 f b, zero-add m) at t
+
+-- ── numbers stored before a row, whichever is written first ──
+pub set-past : (p n k : ℕ) (f : ℕ → ℤ → ℤ) (b : List ℤ) (j : ℕ) (v : ℤ) → j < p → set (remap p n k f b) j v ≡ remap p n k f (set b j v)
+unfolding remap
+set-past p n k f [] j v h = refl
+set-past (suc p) n k f (z ∷ b) zero v h = refl
+set-past (suc p) n k f (z ∷ b) (suc j) v h = ap (λ (l : List ℤ). z ∷ l) (set-past p n k f b j v (le-of-suc-le-suc h))
+set-past zero n k f (z ∷ b) j v h = absurd (not-suc-le-zero h)
+
+off-less : (j k p : ℕ) → j + k < p → off j k < p
+off-less j zero p h = omega arith
+off-less j (suc k) p h = h
+
+puts-past : (vs : List ℤ) (j m p n : ℕ) (f : ℕ → ℤ → ℤ) (b : List ℤ) → j + (m + length vs) ≤ p → puts (remap p n 0 f b) j m vs ≡ remap p n 0 f (puts b j m vs)
+puts-past [] j m p n f b h = refl
+puts-past (v ∷ vs) j m p n f b h =
+    ap (λ (c : List ℤ). puts c j (suc m) vs) (set-past p n 0 f b (off j m) v (off-less j m p (omega arith)))
+    ∙ puts-past vs j (suc m) p n f (set b (off j m) v) (omega arith)
 
 -- ── the numbers of the lines ──
 pub length-by : (ls : List Line) (xs : List ℕ) → length (numbersBy ls xs) ≤ 5 * length ls
@@ -87,10 +105,10 @@ pub zero-filled : (p m i : ℕ) (b₀ b : List ℤ) → i < m → p + m ≤ leng
 zero-filled p m i b₀ b h room eb s =
     s ∙ ap (λ (x : List ℤ). set x (p + i) (pos 0)) eb ∙ sym (remap-more p i 0 (fill []) b₀ (omega arith)) ∙ ap (λ (x : ℕ). remap p x 0 (fill []) b₀) (sym (add-one i))
 
--- the whole slot: six numbers, the lines, zeros
+-- the whole slot: the lines, the six numbers before them, zeros
 pub slot-filled : (q : NewOrder) (ls : List Line) (xs : List ℕ) (p n local : ℕ) (b : List ℤ) {c1 c2 c3 : List ℤ} → n ≡ length ls → n ≤ 15 → p + 81 ≤ length b
-    → c1 ≡ puts b p 0 (headNumbers q n local)
-    → c2 ≡ remap (p + 6) (5 * n) 0 (fill (numbersBy ls xs)) c1
+    → c1 ≡ remap (p + 6) (5 * n) 0 (fill (numbersBy ls xs)) b
+    → c2 ≡ puts c1 p 0 (headNumbers q n local)
     → c3 ≡ remap (p + (6 + 5 * n)) (81 - (6 + 5 * n)) 0 (fill []) c2
     → c3 ≡ remap p 81 0 (fill (headNumbers q n local ++ numbersBy ls xs)) b
 slot-filled q ls xs p n local b {c1} {c2} {c3} e k room e1 e2 e3 =
@@ -98,10 +116,12 @@ slot-filled q ls xs p n local b {c1} {c2} {c3} e k room e1 e2 e3 =
     let rest = numbersBy ls xs in
     let f = fill (head ++ rest) in
     let u = 6 + 5 * n in
-    let s1 : c1 ≡ remap p 6 0 f b =
-    e1 ∙ puts-row head p b (omega arith) ∙ remap-same p 6 f (fill head) b (omega arith) (λ i y z g. List·getD-append head rest (pos 0) i g) in
+    let s1 : puts b p 0 head ≡ remap p 6 0 f b =
+    puts-row head p b (omega arith) ∙ remap-same p 6 f (fill head) b (omega arith) (λ i y z g. List·getD-append head rest (pos 0) i g) in
     let s2 : c2 ≡ remap p u 0 f b =
     e2
+    ∙ ap (λ (x : List ℤ). puts x p 0 head) e1
+    ∙ puts-past head p 0 (p + 6) (5 * n) (fill rest) b (omega arith)
     ∙ ap (λ (x : List ℤ). remap (p + 6) (5 * n) 0 (fill rest) x) s1
     ∙ remap-then p 6 (5 * n) f (fill rest) b (omega arith) (λ i y z g. getD-append-add head rest i (pos 0)) in
     let long : length (head ++ rest) ≤ u = omega (arith, length-append head rest, length-by ls xs) in

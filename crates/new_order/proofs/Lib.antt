@@ -3,6 +3,7 @@ pub mod Zipped
 pub mod Stages
 pub mod Taking
 pub mod Filling
+pub mod Entering
 pub mod Pricing
 pub mod Joining
 pub mod Gathering
