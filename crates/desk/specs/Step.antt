@@ -1,6 +1,6 @@
 -- A request as its reading holds it, and a buffer with room for any answer.
 -- Assumes nothing.
-use mathlib.Core.Bool.{Bool}
+use mathlib.Core.Bool.{Bool, true, false}
 use mathlib.Core.List.{List}
 use Prim.Native.Nat.{ℕ, _≤_}
 use lib.Dec.{leb}
@@ -8,6 +8,7 @@ use lib.ListN.{length, take}
 use Rattle.model.specs.declared.Form.{Form}
 use Rattle.model.specs.declared.LastName.{LastName}
 use Rattle.model.specs.declared.Lines.{Lines}
+use Rattle.model.specs.Answer.{Answer, committed, refused}
 use Rattle.model.specs.Request.{Request, requestOf, linesOf, nameIn}
 
 abbrev pub requestIn : Form → Lines → LastName → Request
@@ -22,3 +23,7 @@ pub record Held (l : Lines) (n : LastName) : Type 0 where
 
 abbrev pub roomy : List ℕ → Bool
 roomy out = leb 2048 (length out)
+
+abbrev pub isCommitted : Answer → Bool
+isCommitted (committed figures) = true
+isCommitted (refused r) = false

@@ -9,9 +9,10 @@ ghost use lib.ListN.{length, take, drop, replicate};
 ghost use Rattle.model.specs.RequestLine.{readLine};
 ghost use Rattle.model.specs.Request.{after};
 ghost use Rattle.model.specs.AnswerLine.{answerLine, printedFor, leftAfter};
+ghost use Rattle.model.specs.Opening.{openingAnswer};
 ghost use Rattle.model.proofs.Listing.{programBook, programNames};
 ghost use Rattle.answers.specs.Writing.{withLine, lengthIf};
-ghost use Rattle.desk.specs.Step.{requestIn, Held, roomy};
+ghost use Rattle.desk.specs.Step.{isCommitted, requestIn, Held, roomy};
 ghost use Rattle.desk.specs.Input.{kept, bookAfter, lineAfter};
 ghost use Rattle.desk.specs.Filling.{headTo, districtsTo, pricesTo, stocksTo, twoNames};
 use libc::STDIN_FILENO;
@@ -245,8 +246,10 @@ fn serve(b: &mut [i64], names: &[u8]) {
     }
 }
 
-// The program: its book, opened, and standard input answered on it.
-pub fn run() {
+// The program: its book, opened, and standard input answered on it. True, for opening accepts the book.
+pub fn run() -> bool
+    ensures { λ r. ⌜ r ≡ isCommitted (openingAnswer programBook programNames) ⌝ }
+{
     let mut b = [0i64; 3479];
     let mut names = [0u8; 640];
     fill_numbers(&mut b);
@@ -254,7 +257,10 @@ pub fn run() {
     let a = opening::opening(&b, &names);
     let o = a.outcome;
     match o {
-        OpeningOutcome::Accepted => serve(&mut b, &names),
-        OpeningOutcome::Refused(_) => {}
+        OpeningOutcome::Accepted => {
+            serve(&mut b, &names);
+            true
+        }
+        OpeningOutcome::Refused(_) => false,
     }
 }
