@@ -7,3 +7,5 @@ pub mod Entering
 pub mod Pricing
 pub mod Joining
 pub mod Gathering
+pub mod Known
+pub mod Carried
