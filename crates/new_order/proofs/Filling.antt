@@ -15,9 +15,8 @@ use Rattle.model.specs.Store.{remap}
 use Rattle.model.specs.NewOrder.{amountsOf, lineNumbers}
 use Rattle.model.proofs.Frame.{length-remap}
 use Rattle.model.proofs.Rewrite.{remap-none, remap-more, off, puts, puts-row}
-use Rattle.model.specs.Request.{linesOf, lineAt}
 use Rattle.new_order.specs.Slot.{headNumbers, five, numbersBy, fill}
-use Rattle.model.proofs.Zipped.{noLine, line-is}
+use Rattle.model.proofs.Zipped.{noLine}
 
 -- ── m numbers written after k others ──
 pub remap-then : (p k m : ℕ) (f g : ℕ → ℤ → ℤ) (b : List ℤ) → p + (k + m) ≤ length b → ((i : ℕ) (y z : ℤ) → i < m → f (k + i) y ≡ g i z)
@@ -80,16 +79,14 @@ by-at (l ∷ ls) (a ∷ xs) (suc i) c z h k g =
     ap (λ (j : ℕ). getD (five l a ++ numbersBy ls xs) j (pos 0)) e ∙ by-at ls xs i c z (le-of-suc-le-suc h) (le-of-suc-le-suc k) g
 
 -- one line more: what the loop over the lines stores at line i
-pub line-filled : (is ss qs xs : List ℕ) (p n i : ℕ) (b₀ b : List ℤ) {l : Line} {a : ℕ} → n ≡ length (linesOf is ss qs) → i < n → n ≤ length xs → p + 5 * n ≤ length b₀
-    → l ≡ lineAt is ss qs i → a ≡ getD xs i 0 → b ≡ remap p (5 * i) 0 (fill (numbersBy (linesOf is ss qs) xs)) b₀
-    → {c : List ℤ} → c ≡ puts b (p + 5 * i) 0 (five l a) → c ≡ remap p (5 * (i + 1)) 0 (fill (numbersBy (linesOf is ss qs) xs)) b₀
-line-filled is ss qs xs p n i b₀ b {l} {a} e h k room el ea eb {c} s =
-    let ls = linesOf is ss qs in
+pub line-filled : (ls : List Line) (xs : List ℕ) (p n i : ℕ) (b₀ b : List ℤ) {l : Line} {a : ℕ} → n ≡ length ls → i < n → n ≤ length xs → p + 5 * n ≤ length b₀
+    → l ≡ getD ls i noLine → a ≡ getD xs i 0 → b ≡ remap p (5 * i) 0 (fill (numbersBy ls xs)) b₀
+    → {c : List ℤ} → c ≡ puts b (p + 5 * i) 0 (five l a) → c ≡ remap p (5 * (i + 1)) 0 (fill (numbersBy ls xs)) b₀
+line-filled ls xs p n i b₀ b {l} {a} e h k room el ea eb {c} s =
     let f = fill (numbersBy ls xs) in
     let lb : length b ≡ length b₀ = ap length eb ∙ length-remap p (5 * i) 0 f b₀ in
     let r = puts-row (five l a) (p + 5 * i) b (omega arith) in
-    let q : l ≡ getD ls i noLine = el ∙ sym (line-is is ss qs i noLine (omega arith)) in
-    let t = remap-then p (5 * i) 5 f (fill (five l a)) b₀ (omega arith) (λ j y z g. by-at ls xs i j noLine (omega arith) (omega arith) g ∙ sym (ap (λ (x : Line). getD (five x a) j (pos 0)) q ∙ ap (λ (x : ℕ). getD (five (getD ls i noLine) x) j (pos 0)) ea)) in
+    let t = remap-then p (5 * i) 5 f (fill (five l a)) b₀ (omega arith) (λ j y z g. by-at ls xs i j noLine (omega arith) (omega arith) g ∙ sym (ap (λ (x : Line). getD (five x a) j (pos 0)) el ∙ ap (λ (x : ℕ). getD (five (getD ls i noLine) x) j (pos 0)) ea)) in
     let m : 5 * i + 5 ≡ 5 * (i + 1) = omega arith in
     s ∙ r ∙ ap (λ (x : List ℤ). remap (p + 5 * i) 5 0 (fill (five l a)) x) eb ∙ t ∙ ap (λ (x : ℕ). remap p x 0 f b₀) m
 
