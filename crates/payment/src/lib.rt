@@ -212,15 +212,15 @@ fn plan_of(b: &[i64], d: Dims, q: Payment, c: u64) -> Plan
     let warehouse = layout::warehouse_at(d, q.warehouse) + 1;
     let district = layout::district_at(d, q.warehouse, q.district) + 1;
     let row = layout::customer_at(d, q.custwarehouse, q.custdistrict, c);
-    let warehouseytd = cells::get(b, warehouse) + q.amount;
-    let districtytd = cells::get(b, district) + q.amount;
+    let warehouseytd = cells::held(b, warehouse) + q.amount;
+    let districtytd = cells::held(b, district) + q.amount;
     let balance = row + 2;
     let newbalance = cells::balance_less(cells::get_signed(b, balance), q.amount);
     let paid = row + 3;
-    let newpaid = cells::get(b, paid) + q.amount;
+    let newpaid = cells::held(b, paid) + q.amount;
     let payments = row + 4;
-    let newpayments = cells::get(b, payments) + 1;
-    let count = cells::get(b, 5) + 1;
+    let newpayments = cells::held(b, payments) + 1;
+    let count = cells::held(b, 5) + 1;
     let history = layout::history_at(d, count);
     Plan {
         warehouse,

@@ -6,6 +6,7 @@ use Rattle.rows.proofs.RowTests.{read-is}
 use Rattle.payment.proofs.Joint.{col}
 use Rattle.payment.specs.Plan.{planOf}
 use Rattle.cells.proofs.Signed.{held}
+use mathlib.Core.Path.{refl}
 use Prim.Native.Nat.{_≤_, _<_, _-_}
 use native.Mathlib.Omega.{arith}
 use borrow.Author.Needs.{needs}
@@ -14,7 +15,7 @@ use Rattle.payment.proofs.plan_of.Tie as tie
 use Rattle.payment.proofs.plan_of.Reads as reads
 use Rattle.payment.proofs.plan_of.Lts as lts
 use Rattle.cells.proofs.balance_less.Reads as balance-less-reads
-use Rattle.cells.proofs.get.Reads as get-reads
+use Rattle.cells.proofs.held.Reads as get-reads
 use Rattle.cells.proofs.get_signed.Reads as get-signed-reads
 use Rattle.layout.proofs.customer_at.Reads as customer-at-reads
 use Rattle.layout.proofs.district_at.Reads as district-at-reads
@@ -42,22 +43,24 @@ customer-at-requires : tie.Need-customer-at-requires
 customer-at-requires c κs = search needs
 
 -- src/lib.rt:56:24
-get-requires : tie.Need-get-requires
-get-requires c κs = search needs
+held-requires : tie.Need-held-requires
+held-requires c κs =
+    (search needs, omega (arith, read-is (c .before .before .before .args .d) (c .before .before .before .args .b .now) 1 (c .before .before .before .args .q .warehouse) 1 1 1 refl (c .before .before .warehouse-at .ensures .0), c .before .before .before .pre .warehouse .ytd))
 
 -- src/lib.rt:56:24
 add-warehouseytd : tie.Need-add-warehouseytd
 add-warehouseytd c =
-    let h1 : c .before .get .result ≤ 999999999999 = rw (read-is (c .before .before .before .before .before .args .d) (c .before .before .before .before .before .args .b .now) 1 (c .before .before .before .before .before .args .q .warehouse) 1 1 1 (c .before .get .ensures) (c .before .before .before .before .warehouse-at .ensures .0)) (c .before .before .before .before .before .pre .warehouse .ytd) in omega (arith, c .before .before .before .before .before .pre .amount-high)
+    let h1 : c .before .held .result ≤ 999999999999 = rw (read-is (c .before .before .before .before .before .args .d) (c .before .before .before .before .before .args .b .now) 1 (c .before .before .before .before .before .args .q .warehouse) 1 1 1 (c .before .held .ensures) (c .before .before .before .before .warehouse-at .ensures .0)) (c .before .before .before .before .before .pre .warehouse .ytd) in omega (arith, c .before .before .before .before .before .pre .amount-high)
 
 -- src/lib.rt:57:23
-get-requires-2 : tie.Need-get-requires-2
-get-requires-2 c κs = search needs
+held-requires-2 : tie.Need-held-requires-2
+held-requires-2 c κs =
+    (search needs, omega (arith, read-is (c .before .before .before .before .before .args .d) (c .before .before .before .before .before .args .b .now) 2 (c .before .before .before .before .before .args .q .warehouse) (c .before .before .before .before .before .args .q .district) 1 1 refl (c .before .before .before .district-at .ensures .0), c .before .before .before .before .before .pre .district .ytd))
 
 -- src/lib.rt:57:23
 add-districtytd : tie.Need-add-districtytd
 add-districtytd c =
-    let h2 : c .before .get2 .result ≤ 999999999999 = rw (read-is (c .before .before .before .before .before .before .before .args .d) (c .before .before .before .before .before .before .before .args .b .now) 2 (c .before .before .before .before .before .before .before .args .q .warehouse) (c .before .before .before .before .before .before .before .args .q .district) 1 1 (c .before .get2 .ensures) (c .before .before .before .before .before .district-at .ensures .0)) (c .before .before .before .before .before .before .before .pre .district .ytd) in omega (arith, c .before .before .before .before .before .before .before .pre .amount-high)
+    let h2 : c .before .held2 .result ≤ 999999999999 = rw (read-is (c .before .before .before .before .before .before .before .args .d) (c .before .before .before .before .before .before .before .args .b .now) 2 (c .before .before .before .before .before .before .before .args .q .warehouse) (c .before .before .before .before .before .before .before .args .q .district) 1 1 (c .before .held2 .ensures) (c .before .before .before .before .before .district-at .ensures .0)) (c .before .before .before .before .before .before .before .pre .district .ytd) in omega (arith, c .before .before .before .before .before .before .before .pre .amount-high)
 
 -- src/lib.rt:58:19
 add-balance : tie.Need-add-balance
@@ -77,61 +80,64 @@ add-paid : tie.Need-add-paid
 add-paid c = search needs
 
 -- src/lib.rt:61:19
-get-requires-3 : tie.Need-get-requires-3
-get-requires-3 c κs = search needs
+held-requires-3 : tie.Need-held-requires-3
+held-requires-3 c κs =
+    (search needs, omega (arith, read-is (c .before .before .before .before .before .before .before .before .before .args .d) (c .before .before .before .before .before .before .before .before .before .args .b .now) 3 (c .before .before .before .before .before .before .before .before .before .args .q .custwarehouse) (c .before .before .before .before .before .before .before .before .before .args .q .custdistrict) (c .before .before .before .before .before .before .before .before .before .args .c) 3 refl (c .before .before .before .before .before .before .customer-at .ensures .0), c .before .before .before .before .before .before .before .before .before .pre .customer .paid))
 
 -- src/lib.rt:61:19
 add-newpaid : tie.Need-add-newpaid
 add-newpaid c =
-    let h3 : c .before .get3 .result ≤ 999999999999 = rw (read-is (c .before .before .before .before .before .before .before .before .before .before .before .args .d) (c .before .before .before .before .before .before .before .before .before .before .before .args .b .now) 3 (c .before .before .before .before .before .before .before .before .before .before .before .args .q .custwarehouse) (c .before .before .before .before .before .before .before .before .before .before .before .args .q .custdistrict) (c .before .before .before .before .before .before .before .before .before .before .before .args .c) 3 (c .before .get3 .ensures) (c .before .before .before .before .before .before .before .before .customer-at .ensures .0)) (c .before .before .before .before .before .before .before .before .before .before .before .pre .customer .paid) in omega (arith, c .before .before .before .before .before .before .before .before .before .before .before .pre .amount-high)
+    let h3 : c .before .held3 .result ≤ 999999999999 = rw (read-is (c .before .before .before .before .before .before .before .before .before .before .before .args .d) (c .before .before .before .before .before .before .before .before .before .before .before .args .b .now) 3 (c .before .before .before .before .before .before .before .before .before .before .before .args .q .custwarehouse) (c .before .before .before .before .before .before .before .before .before .before .before .args .q .custdistrict) (c .before .before .before .before .before .before .before .before .before .before .before .args .c) 3 (c .before .held3 .ensures) (c .before .before .before .before .before .before .before .before .customer-at .ensures .0)) (c .before .before .before .before .before .before .before .before .before .before .before .pre .customer .paid) in omega (arith, c .before .before .before .before .before .before .before .before .before .before .before .pre .amount-high)
 
 -- src/lib.rt:62:20
 add-payments : tie.Need-add-payments
 add-payments c = search needs
 
 -- src/lib.rt:63:23
-get-requires-4 : tie.Need-get-requires-4
-get-requires-4 c κs = search needs
+held-requires-4 : tie.Need-held-requires-4
+held-requires-4 c κs =
+    (search needs, omega (arith, read-is (c .before .before .before .before .before .before .before .before .before .before .before .args .d) (c .before .before .before .before .before .before .before .before .before .before .before .args .b .now) 3 (c .before .before .before .before .before .before .before .before .before .before .before .args .q .custwarehouse) (c .before .before .before .before .before .before .before .before .before .before .before .args .q .custdistrict) (c .before .before .before .before .before .before .before .before .before .before .before .args .c) 4 refl (c .before .before .before .before .before .before .before .before .customer-at .ensures .0), c .before .before .before .before .before .before .before .before .before .before .before .pre .customer .payments))
 
 -- src/lib.rt:63:23
 add-newpayments : tie.Need-add-newpayments
 add-newpayments c =
-    let h4 : c .get4 .result ≤ 999999999 = rw (read-is (c .before .before .before .before .before .before .before .before .before .before .before .before .args .d) (c .before .before .before .before .before .before .before .before .before .before .before .before .args .b .now) 3 (c .before .before .before .before .before .before .before .before .before .before .before .before .args .q .custwarehouse) (c .before .before .before .before .before .before .before .before .before .before .before .before .args .q .custdistrict) (c .before .before .before .before .before .before .before .before .before .before .before .before .args .c) 4 (c .get4 .ensures) (c .before .before .before .before .before .before .before .before .before .customer-at .ensures .0)) (c .before .before .before .before .before .before .before .before .before .before .before .before .pre .customer .payments) in omega arith
+    let h4 : c .held4 .result ≤ 999999999 = rw (read-is (c .before .before .before .before .before .before .before .before .before .before .before .before .args .d) (c .before .before .before .before .before .before .before .before .before .before .before .before .args .b .now) 3 (c .before .before .before .before .before .before .before .before .before .before .before .before .args .q .custwarehouse) (c .before .before .before .before .before .before .before .before .before .before .before .before .args .q .custdistrict) (c .before .before .before .before .before .before .before .before .before .before .before .before .args .c) 4 (c .held4 .ensures) (c .before .before .before .before .before .before .before .before .before .customer-at .ensures .0)) (c .before .before .before .before .before .before .before .before .before .before .before .before .pre .customer .payments) in omega arith
 
 -- src/lib.rt:64:17
-get-requires-5 : tie.Need-get-requires-5
-get-requires-5 c κs = search needs
+held-requires-5 : tie.Need-held-requires-5
+held-requires-5 c κs =
+    (search needs, omega (arith, head-num (c .before .before .before .before .before .before .before .before .before .before .before .before .args .d) (c .before .before .before .before .before .before .before .before .before .before .before .before .args .b .now), c .before .before .before .before .before .before .before .before .before .before .before .before .pre .room, c .before .before .before .before .before .before .before .before .before .before .before .before .pre .dimsd))
 
 -- src/lib.rt:64:17
 add-count : tie.Need-add-count
 add-count c =
-    let h5 : c .get5 .result < c .before .before .before .before .before .before .before .before .before .before .before .before .before .args .d .histories = rw (c .get5 .ensures, head-num (c .before .before .before .before .before .before .before .before .before .before .before .before .before .args .d) (c .before .before .before .before .before .before .before .before .before .before .before .before .before .args .b .now)) (c .before .before .before .before .before .before .before .before .before .before .before .before .before .pre .room) in omega (arith, c .before .before .before .before .before .before .before .before .before .before .before .before .before .pre .dimsd)
+    let h5 : c .held5 .result < c .before .before .before .before .before .before .before .before .before .before .before .before .before .args .d .histories = rw (c .held5 .ensures, head-num (c .before .before .before .before .before .before .before .before .before .before .before .before .before .args .d) (c .before .before .before .before .before .before .before .before .before .before .before .before .before .args .b .now)) (c .before .before .before .before .before .before .before .before .before .before .before .before .before .pre .room) in omega (arith, c .before .before .before .before .before .before .before .before .before .before .before .before .before .pre .dimsd)
 
 -- src/lib.rt:65:9
 history-at-requires : tie.Need-history-at-requires
 history-at-requires c κs =
-    let h5 : c .get5 .result < c .before .before .before .before .before .before .before .before .before .before .before .before .before .args .d .histories = rw (c .get5 .ensures, head-num (c .before .before .before .before .before .before .before .before .before .before .before .before .before .args .d) (c .before .before .before .before .before .before .before .before .before .before .before .before .before .args .b .now)) (c .before .before .before .before .before .before .before .before .before .before .before .before .before .pre .room) in (c .before .before .before .before .before .before .before .before .before .before .before .before .before .pre .dimsd, omega arith)
+    let h5 : c .held5 .result < c .before .before .before .before .before .before .before .before .before .before .before .before .before .args .d .histories = rw (c .held5 .ensures, head-num (c .before .before .before .before .before .before .before .before .before .before .before .before .before .args .d) (c .before .before .before .before .before .before .before .before .before .before .before .before .before .args .b .now)) (c .before .before .before .before .before .before .before .before .before .before .before .before .before .pre .room) in (c .before .before .before .before .before .before .before .before .before .before .before .before .before .pre .dimsd, omega arith)
 
 -- src/lib.rt:49:1
 returns : tie.Need-returns
 unfolding planOf cell get
 returns c =
-    let h1 : c .before .before .before .before .before .before .before .before .before .before .get .result ≤ 999999999999 = rw (read-is (c .before .before .before .before .before .before .before .before .before .before .before .before .before .before .args .d) (c .before .before .before .before .before .before .before .before .before .before .before .before .before .before .args .b .now) 1 (c .before .before .before .before .before .before .before .before .before .before .before .before .before .before .args .q .warehouse) 1 1 1 (c .before .before .before .before .before .before .before .before .before .before .get .ensures) (c .before .before .before .before .before .before .before .before .before .before .before .before .before .warehouse-at .ensures .0)) (c .before .before .before .before .before .before .before .before .before .before .before .before .before .before .pre .warehouse .ytd) in
-    let h2 : c .before .before .before .before .before .before .before .before .get2 .result ≤ 999999999999 = rw (read-is (c .before .before .before .before .before .before .before .before .before .before .before .before .before .before .args .d) (c .before .before .before .before .before .before .before .before .before .before .before .before .before .before .args .b .now) 2 (c .before .before .before .before .before .before .before .before .before .before .before .before .before .before .args .q .warehouse) (c .before .before .before .before .before .before .before .before .before .before .before .before .before .before .args .q .district) 1 1 (c .before .before .before .before .before .before .before .before .get2 .ensures) (c .before .before .before .before .before .before .before .before .before .before .before .before .district-at .ensures .0)) (c .before .before .before .before .before .before .before .before .before .before .before .before .before .before .pre .district .ytd) in
-    let h3 : c .before .before .before .before .get3 .result ≤ 999999999999 = rw (read-is (c .before .before .before .before .before .before .before .before .before .before .before .before .before .before .args .d) (c .before .before .before .before .before .before .before .before .before .before .before .before .before .before .args .b .now) 3 (c .before .before .before .before .before .before .before .before .before .before .before .before .before .before .args .q .custwarehouse) (c .before .before .before .before .before .before .before .before .before .before .before .before .before .before .args .q .custdistrict) (c .before .before .before .before .before .before .before .before .before .before .before .before .before .before .args .c) 3 (c .before .before .before .before .get3 .ensures) (c .before .before .before .before .before .before .before .before .before .before .before .customer-at .ensures .0)) (c .before .before .before .before .before .before .before .before .before .before .before .before .before .before .pre .customer .paid) in
-    let h4 : c .before .before .get4 .result ≤ 999999999 = rw (read-is (c .before .before .before .before .before .before .before .before .before .before .before .before .before .before .args .d) (c .before .before .before .before .before .before .before .before .before .before .before .before .before .before .args .b .now) 3 (c .before .before .before .before .before .before .before .before .before .before .before .before .before .before .args .q .custwarehouse) (c .before .before .before .before .before .before .before .before .before .before .before .before .before .before .args .q .custdistrict) (c .before .before .before .before .before .before .before .before .before .before .before .before .before .before .args .c) 4 (c .before .before .get4 .ensures) (c .before .before .before .before .before .before .before .before .before .before .before .customer-at .ensures .0)) (c .before .before .before .before .before .before .before .before .before .before .before .before .before .before .pre .customer .payments) in
-    let h5 : c .before .get5 .result < c .before .before .before .before .before .before .before .before .before .before .before .before .before .before .args .d .histories = rw (c .before .get5 .ensures, head-num (c .before .before .before .before .before .before .before .before .before .before .before .before .before .before .args .d) (c .before .before .before .before .before .before .before .before .before .before .before .before .before .before .args .b .now)) (c .before .before .before .before .before .before .before .before .before .before .before .before .before .before .pre .room) in (
+    let h1 : c .before .before .before .before .before .before .before .before .before .before .held .result ≤ 999999999999 = rw (read-is (c .before .before .before .before .before .before .before .before .before .before .before .before .before .before .args .d) (c .before .before .before .before .before .before .before .before .before .before .before .before .before .before .args .b .now) 1 (c .before .before .before .before .before .before .before .before .before .before .before .before .before .before .args .q .warehouse) 1 1 1 (c .before .before .before .before .before .before .before .before .before .before .held .ensures) (c .before .before .before .before .before .before .before .before .before .before .before .before .before .warehouse-at .ensures .0)) (c .before .before .before .before .before .before .before .before .before .before .before .before .before .before .pre .warehouse .ytd) in
+    let h2 : c .before .before .before .before .before .before .before .before .held2 .result ≤ 999999999999 = rw (read-is (c .before .before .before .before .before .before .before .before .before .before .before .before .before .before .args .d) (c .before .before .before .before .before .before .before .before .before .before .before .before .before .before .args .b .now) 2 (c .before .before .before .before .before .before .before .before .before .before .before .before .before .before .args .q .warehouse) (c .before .before .before .before .before .before .before .before .before .before .before .before .before .before .args .q .district) 1 1 (c .before .before .before .before .before .before .before .before .held2 .ensures) (c .before .before .before .before .before .before .before .before .before .before .before .before .district-at .ensures .0)) (c .before .before .before .before .before .before .before .before .before .before .before .before .before .before .pre .district .ytd) in
+    let h3 : c .before .before .before .before .held3 .result ≤ 999999999999 = rw (read-is (c .before .before .before .before .before .before .before .before .before .before .before .before .before .before .args .d) (c .before .before .before .before .before .before .before .before .before .before .before .before .before .before .args .b .now) 3 (c .before .before .before .before .before .before .before .before .before .before .before .before .before .before .args .q .custwarehouse) (c .before .before .before .before .before .before .before .before .before .before .before .before .before .before .args .q .custdistrict) (c .before .before .before .before .before .before .before .before .before .before .before .before .before .before .args .c) 3 (c .before .before .before .before .held3 .ensures) (c .before .before .before .before .before .before .before .before .before .before .before .customer-at .ensures .0)) (c .before .before .before .before .before .before .before .before .before .before .before .before .before .before .pre .customer .paid) in
+    let h4 : c .before .before .held4 .result ≤ 999999999 = rw (read-is (c .before .before .before .before .before .before .before .before .before .before .before .before .before .before .args .d) (c .before .before .before .before .before .before .before .before .before .before .before .before .before .before .args .b .now) 3 (c .before .before .before .before .before .before .before .before .before .before .before .before .before .before .args .q .custwarehouse) (c .before .before .before .before .before .before .before .before .before .before .before .before .before .before .args .q .custdistrict) (c .before .before .before .before .before .before .before .before .before .before .before .before .before .before .args .c) 4 (c .before .before .held4 .ensures) (c .before .before .before .before .before .before .before .before .before .before .before .customer-at .ensures .0)) (c .before .before .before .before .before .before .before .before .before .before .before .before .before .before .pre .customer .payments) in
+    let h5 : c .before .held5 .result < c .before .before .before .before .before .before .before .before .before .before .before .before .before .before .args .d .histories = rw (c .before .held5 .ensures, head-num (c .before .before .before .before .before .before .before .before .before .before .before .before .before .before .args .d) (c .before .before .before .before .before .before .before .before .before .before .before .before .before .before .args .b .now)) (c .before .before .before .before .before .before .before .before .before .before .before .before .before .before .pre .room) in (
       rw (
         held (c .before .before .before .before .before .balance-less .ok),
         c .before .before .before .before .before .balance-less .ensures,
         held (c .before .before .before .before .before .before .get-signed .ok),
         c .before .before .before .before .before .before .get-signed .ensures,
-        c .before .before .before .before .before .before .before .before .before .before .get .ensures,
-        c .before .before .before .before .before .before .before .before .get2 .ensures,
-        c .before .before .before .before .get3 .ensures,
-        c .before .before .get4 .ensures,
+        c .before .before .before .before .before .before .before .before .before .before .held .ensures,
+        c .before .before .before .before .before .before .before .before .held2 .ensures,
+        c .before .before .before .before .held3 .ensures,
+        c .before .before .held4 .ensures,
         c .history-at .ensures .0,
-        c .before .get5 .ensures,
+        c .before .held5 .ensures,
         c .before .before .before .before .before .before .before .before .before .before .before .before .before .warehouse-at .ensures .0,
         c .before .before .before .before .before .before .before .before .before .before .before .before .district-at .ensures .0,
         c .before .before .before .before .before .before .before .before .before .before .before .customer-at .ensures .0,
@@ -154,20 +160,20 @@ plan-of-spec =
     district-at-requires
     add-district
     customer-at-requires
-    get-requires
+    held-requires
     add-warehouseytd
-    get-requires-2
+    held-requires-2
     add-districtytd
     add-balance
     get-signed-requires
     balance-less-requires
     add-paid
-    get-requires-3
+    held-requires-3
     add-newpaid
     add-payments
-    get-requires-4
+    held-requires-4
     add-newpayments
-    get-requires-5
+    held-requires-5
     add-count
     history-at-requires
     returns)
