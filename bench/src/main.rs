@@ -7,7 +7,6 @@ mod book;
 mod chart;
 mod check;
 mod contender;
-mod counting;
 mod load;
 mod measure;
 mod requests;
@@ -47,7 +46,6 @@ fn measured(most: usize) -> (&'static str, Vec<measure::Row>) {
     checked();
     let mut books = compared(most);
     tables::missed(&books);
-    tables::wrapper(measure::wrapper(&sized(1, HALF)));
     books.pop().expect("a book")
 }
 

@@ -3,13 +3,12 @@
 use crate::book::{self, Size};
 use crate::check::Engines;
 use crate::contender::{Contender, InBook};
-use crate::counting;
 use crate::requests::{Asker, Call, Timed, CALLS};
 use crate::sums;
 use proved::ProvedEngine;
 use second::layout::Layout;
 use second::replay::{Lent, SecondEngine};
-use second::{Line, Request};
+use second::Request;
 use std::hint::black_box;
 use std::time::Instant;
 
@@ -64,11 +63,13 @@ impl Field {
         (spent, black_box(digest))
     }
 
-    /// One round: the contenders in turn, another one first each time.
+    /// One round: the contenders in turn, another one first each time, and the other way round after each has been first.
     fn round(&mut self, round: usize, requests: &[Request], best: &mut [f64; CONTENDERS]) {
         let mut digests = [0; CONTENDERS];
+        let back = round / CONTENDERS % 2 == 1;
         for turn in 0..CONTENDERS {
-            let contender = (turn + round) % CONTENDERS;
+            let step = if back { CONTENDERS - turn } else { turn };
+            let contender = (round + step) % CONTENDERS;
             let (spent, digest) = self.time(contender, requests);
             best[contender] = best[contender].min(spent);
             digests[contender] = digest;
@@ -118,53 +119,6 @@ fn row(field: &mut Field, asker: &mut Asker, timed: &Timed, fewer: usize) -> Row
         sql,
         sum: sums::scans(timed.call).then_some(sum),
     }
-}
-
-/// What a New-Order's lines cost before they reach the proved library: allocations of the test wrapper, and the microseconds of three
-/// vectors filled from the lines, which is what it does where it allocates. They are timed as so much more before each call.
-pub fn wrapper(size: &Size) -> (usize, f64) {
-    let mut asker = Asker::new(size, 3);
-    let lent = book::make(size);
-    let mut proved = InBook {
-        engine: ProvedEngine,
-        lent,
-    };
-    let first = asker.batch(Call::NewOrder, 1);
-    let before = counting::allocations();
-    proved.batch(&first);
-    let allocations = counting::allocations() - before;
-    let mut best = [f64::MAX; 2];
-    for round in 0..100 {
-        let requests = asker.batch(Call::NewOrder, 100);
-        let more = round % 2;
-        best[more] = best[more].min(time_copied(&mut proved, &requests, more));
-    }
-    (allocations, best[1] - best[0])
-}
-
-/// Microseconds a New-Order, the lines copied so many times before each.
-fn time_copied(proved: &mut InBook<ProvedEngine>, requests: &[Request], times: usize) -> f64 {
-    let start = Instant::now();
-    for request in requests {
-        for _ in 0..times {
-            black_box(columns(request));
-        }
-        black_box(proved.batch(std::slice::from_ref(request)));
-    }
-    start.elapsed().as_secs_f64() * 1e6 / requests.len() as f64
-}
-
-/// A New-Order's lines as three vectors.
-fn columns(request: &Request) -> [Vec<u64>; 3] {
-    let Request::NewOrder(r) = request else {
-        return Default::default();
-    };
-    let column = |field: fn(&Line) -> u64| r.lines.iter().map(field).collect();
-    [
-        column(|line| line.item),
-        column(|line| line.supply_warehouse),
-        column(|line| line.quantity),
-    ]
 }
 
 /// Carries out one call's rounds on the proved library alone, ten times over.

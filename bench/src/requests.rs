@@ -38,14 +38,14 @@ const fn timed(call: Call, name: &'static str, batch: usize, rounds: usize) -> T
 
 /// Every row. A batch is short, so that among its rounds some are undisturbed; New-Orders are as many as a nearly full book has room for.
 pub const CALLS: [Timed; 8] = [
-    timed(Call::NewOrder, "New-Order", 100, 18),
-    timed(Call::PaymentByNumber, "Payment by number", 400, 18),
-    timed(Call::PaymentByName, "Payment by name", 40, 36),
-    timed(Call::Delivery, "Delivery", 2, 60),
-    timed(Call::StatusByNumber, "Order-Status by number", 10, 60),
-    timed(Call::StatusByName, "Order-Status by name", 10, 60),
-    timed(Call::StockLevel, "Stock-Level", 10, 60),
-    timed(Call::Mix, "TPC-C's mix", 100, 18),
+    timed(Call::NewOrder, "New-Order", 75, 24),
+    timed(Call::PaymentByNumber, "Payment by number", 300, 24),
+    timed(Call::PaymentByName, "Payment by name", 45, 32),
+    timed(Call::Delivery, "Delivery", 2, 64),
+    timed(Call::StatusByNumber, "Order-Status by number", 10, 64),
+    timed(Call::StatusByName, "Order-Status by name", 10, 64),
+    timed(Call::StockLevel, "Stock-Level", 10, 64),
+    timed(Call::Mix, "TPC-C's mix", 100, 16),
 ];
 
 impl Call {

@@ -104,14 +104,6 @@ fn miss(title: &str, row: &Row) -> bool {
     to_second > 1.0 || to_sum > 2.0
 }
 
-/// What of New-Order's time is not the library's.
-pub fn wrapper((allocations, micros): (usize, f64)) {
-    match allocations {
-        0 => println!("\nThe test wrapper of a New-Order allocates nothing."),
-        n => println!("\nNew-Order's time on the proved library includes {n} vectors of the test wrapper, at least {micros:.2} µs."),
-    }
-}
-
 /// Processor, cores, memory, and the versions of what was built with.
 pub fn machine() {
     let field = |file: &str, name: &str| {

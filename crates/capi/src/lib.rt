@@ -15,13 +15,13 @@ ghost use Rattle.capi.specs.Flat.{bareOut, oneOut, twoOut, balanceOut, s
 ghost use Rattle.model.specs.Request.{requestOf, newOrder, payment, delivery, orderStatus, stockLevel, linesOf};
 ghost use Rattle.model.specs.RequestLine.{readLine, stored, writeSays, writeAnswer, writeBuffer};
 ghost use Rattle.model.specs.declared.Form.the-variants as Form;
-ghost use Rattle.new_order.specs.Gathering.{linesHeld};
 ghost use Rattle.capi.specs.FlatLines.{namedOut, numberOut, formOut, readOut};
 use model::Delivery;
 use model::DeliveryOutcome;
 use model::Form;
 use model::Line;
 use model::NewOrder;
+use model::NewOrderAnswer;
 use model::NewOrderOutcome;
 use model::OpeningOutcome;
 use model::OrderStatus;
@@ -33,7 +33,6 @@ use model::StatusOutcome;
 use model::StockLevel;
 use model::StockLevelOutcome;
 use model::WriteOutcome;
-use new_order::Gathered;
 
 // Who: by the last name that is lent beside, or by the number.
 pub fn selection(named: bool, number: u64) -> Selection
@@ -75,31 +74,15 @@ pub fn new_order_out(o: NewOrderOutcome) -> [u64; 4]
     }
 }
 
-// New-Order, its lines by value.
-pub fn new_order_flat(
-    nums: &mut [i64],
-    names: &[u8],
-    warehouse: u64,
-    district: u64,
-    customer: u64,
-    date: u64,
-    g: Gathered,
-    out: &mut [u64; 4],
-)
-    ensures { λ _. ⌜ (now (out .exit) ≡ twoOut (newOrderAnswer (now (nums .entry)) (now (names .entry)) (newOrderOf warehouse district customer date) (linesHeld g))) × (now (nums .exit) ≡ newOrderBook (now (nums .entry)) (now (names .entry)) (newOrderOf warehouse district customer date) (linesHeld g)) ⌝ }
+// New-Order's answer, put into the lent numbers.
+pub fn put_new_order(out: &mut [u64; 4], a: NewOrderAnswer)
+    ensures { λ _. ⌜ now (out .exit) ≡ twoOut (newOrderSays (a .outcome)) ⌝ }
 {
-    let q = NewOrder {
-        warehouse,
-        district,
-        customer,
-        date,
-    };
-    let a = new_order::new_order_of(nums, names, q, g);
     let o = a.outcome;
     *out = new_order_out(o);
 }
 
-// New-Order; the lines are a lent slice of records of any length.
+// New-Order; the lines are a lent slice of records of any length, read where they lie.
 #[no_mangle]
 pub extern "C" fn book_new_order(
     nums: &mut [i64],
@@ -113,8 +96,14 @@ pub extern "C" fn book_new_order(
 )
     ensures { λ _. ⌜ (now (out .exit) ≡ twoOut (newOrderAnswer (now (nums .entry)) (now (names .entry)) (newOrderOf warehouse district customer date) (now (lines .entry)))) × (now (nums .exit) ≡ newOrderBook (now (nums .entry)) (now (names .entry)) (newOrderOf warehouse district customer date) (now (lines .entry))) ⌝ }
 {
-    let g = new_order::gather(lines);
-    new_order_flat(nums, names, warehouse, district, customer, date, g, out)
+    let q = NewOrder {
+        warehouse,
+        district,
+        customer,
+        date,
+    };
+    let a = new_order::new_order(nums, names, q, lines);
+    put_new_order(out, a)
 }
 
 // Payment's answer: number, detail, customer.
