@@ -3,19 +3,19 @@
 use mathlib.Core.Path.{_≡_, refl, sym, ap, _∙_}
 use mathlib.Core.List.{List, [], _∷_, _++_}
 use Prim.Native.Nat.{ℕ, zero, suc, _+_, _-_, _*_, _≤_, _<_}
-use native.Mathlib.Nat.{le-antisymm, add-zero, zero-add, add-suc, le-of-suc-le-suc, not-suc-le-zero}
+use native.Mathlib.Nat.{add-zero, zero-add, add-suc, le-of-suc-le-suc, not-suc-le-zero}
 use native.Mathlib.Numerals.{add-one}
 use native.Mathlib.Omega.{arith}
 use lib.IntN.{ℤ, pos}
-use lib.ListN.{length, getD, set, take, drop, List·getD-eq-default, List·getD-append, length-append}
+use lib.ListN.{length, getD, set, List·getD-eq-default, List·getD-append, length-append}
 use lib.Seq.{getD-append-add}
 use Rattle.model.specs.declared.Line.{Line}
 use Rattle.model.specs.declared.NewOrder.{NewOrder}
 use Rattle.model.specs.Store.{remap}
-use Rattle.model.specs.NewOrder.{amountsOf, lineNumbers}
+use Rattle.model.specs.NewOrder.{amountOf, lineNumbers}
 use Rattle.model.proofs.Frame.{length-remap}
 use Rattle.model.proofs.Rewrite.{remap-none, remap-more, off, puts, puts-row}
-use Rattle.new_order.specs.Slot.{headNumbers, five, numbersBy, fill}
+use Rattle.new_order.specs.Slot.{headNumbers, five, fill}
 use Rattle.model.proofs.Zipped.{noLine}
 
 -- ── m numbers written after k others ──
@@ -57,81 +57,55 @@ puts-past (v ∷ vs) j m p n f b h =
     ∙ puts-past vs j (suc m) p n f (set b (off j m) v) (omega arith)
 
 -- ── the numbers of the lines ──
-pub length-by : (ls : List Line) (xs : List ℕ) → length (numbersBy ls xs) ≤ 5 * length ls
-unfolding numbersBy
-length-by [] xs = omega arith
-length-by (l ∷ ls) [] = omega arith
-length-by (l ∷ ls) (a ∷ xs) = let h = length-by ls xs in omega arith
+module _ (prices : ℕ → ℕ) where
+  length-numbers : (ls : List Line) → length (lineNumbers prices ls) ≡ 5 * length ls
+  length-numbers [] = refl
+  length-numbers (l ∷ ls) = let h = length-numbers ls in omega arith
 
-five-of : (l : Line) (a : ℕ) (rest : List ℤ) (c : ℕ) → c < 5 → getD (five l a ++ rest) c (pos 0) ≡ getD (five l a) c (pos 0)
-five-of l a rest c h = List·getD-append (five l a) rest (pos 0) c h
+  numbers-at : (ls : List Line) (i c : ℕ) (z : Line) → i < length ls → c < 5
+      → getD (lineNumbers prices ls) (5 * i + c) (pos 0) ≡ getD (five (getD ls i z) (amountOf prices (getD ls i z))) c (pos 0)
+  numbers-at [] i c z h g = absurd (not-suc-le-zero h)
+  numbers-at (l ∷ ls) zero c z h g =
+      let e : 5 * 0 + c ≡ c = omega arith in
+      ap (λ (j : ℕ). getD (lineNumbers prices (l ∷ ls)) j (pos 0)) e ∙ List·getD-append (five l (amountOf prices l)) (lineNumbers prices ls) (pos 0) c g
+  numbers-at (l ∷ ls) (suc i) c z h g =
+      let e : 5 * suc i + c ≡ suc (suc (suc (suc (suc (5 * i + c))))) = omega arith in
+      ap (λ (j : ℕ). getD (lineNumbers prices (l ∷ ls)) j (pos 0)) e ∙ numbers-at ls i c z (le-of-suc-le-suc h) g
 
-by-at : (ls : List Line) (xs : List ℕ) (i c : ℕ) (z : Line) → i < length ls → i < length xs → c < 5
-    → getD (numbersBy ls xs) (5 * i + c) (pos 0) ≡ getD (five (getD ls i z) (getD xs i 0)) c (pos 0)
-unfolding numbersBy
-by-at [] xs i c z h k g = absurd (not-suc-le-zero h)
-by-at (l ∷ ls) [] i c z h k g = absurd (not-suc-le-zero k)
-by-at (l ∷ ls) (a ∷ xs) zero c z h k g =
-    let e : 5 * 0 + c ≡ c = omega arith in
-    ap (λ (j : ℕ). getD (five l a ++ numbersBy ls xs) j (pos 0)) e ∙ five-of l a (numbersBy ls xs) c g
-by-at (l ∷ ls) (a ∷ xs) (suc i) c z h k g =
-    let e : 5 * suc i + c ≡ suc (suc (suc (suc (suc (5 * i + c))))) = omega arith in
-    ap (λ (j : ℕ). getD (five l a ++ numbersBy ls xs) j (pos 0)) e ∙ by-at ls xs i c z (le-of-suc-le-suc h) (le-of-suc-le-suc k) g
+  -- one line more
+  pub line-filled : (ls : List Line) (p i : ℕ) (b₀ b : List ℤ) → i < length ls → p + 5 * length ls ≤ length b₀ → b ≡ remap p (5 * i) 0 (fill (lineNumbers prices ls)) b₀
+      → puts b (p + 5 * i) 0 (five (getD ls i noLine) (amountOf prices (getD ls i noLine))) ≡ remap p (5 * suc i) 0 (fill (lineNumbers prices ls)) b₀
+  line-filled ls p i b₀ b h room eb =
+      let f = fill (lineNumbers prices ls) in
+      let xs = five (getD ls i noLine) (amountOf prices (getD ls i noLine)) in
+      let lb : length b ≡ length b₀ = ap length eb ∙ length-remap p (5 * i) 0 f b₀ in
+      let m : 5 * i + 5 ≡ 5 * suc i = omega arith in
+      puts-row xs (p + 5 * i) b (omega arith)
+      ∙ ap (λ (x : List ℤ). remap (p + 5 * i) 5 0 (fill xs) x) eb
+      ∙ remap-then p (5 * i) 5 f (fill xs) b₀ (omega arith) (λ j y z g. numbers-at ls i j noLine h g)
+      ∙ ap (λ (x : ℕ). remap p x 0 f b₀) m
 
--- one line more: what the loop over the lines stores at line i
-pub line-filled : (ls : List Line) (xs : List ℕ) (p n i : ℕ) (b₀ b : List ℤ) {l : Line} {a : ℕ} → n ≡ length ls → i < n → n ≤ length xs → p + 5 * n ≤ length b₀
-    → l ≡ getD ls i noLine → a ≡ getD xs i 0 → b ≡ remap p (5 * i) 0 (fill (numbersBy ls xs)) b₀
-    → {c : List ℤ} → c ≡ puts b (p + 5 * i) 0 (five l a) → c ≡ remap p (5 * (i + 1)) 0 (fill (numbersBy ls xs)) b₀
-line-filled ls xs p n i b₀ b {l} {a} e h k room el ea eb {c} s =
-    let f = fill (numbersBy ls xs) in
-    let lb : length b ≡ length b₀ = ap length eb ∙ length-remap p (5 * i) 0 f b₀ in
-    let r = puts-row (five l a) (p + 5 * i) b (omega arith) in
-    let t = remap-then p (5 * i) 5 f (fill (five l a)) b₀ (omega arith) (λ j y z g. by-at ls xs i j noLine (omega arith) (omega arith) g ∙ sym (ap (λ (x : Line). getD (five x a) j (pos 0)) el ∙ ap (λ (x : ℕ). getD (five (getD ls i noLine) x) j (pos 0)) ea)) in
-    let m : 5 * i + 5 ≡ 5 * (i + 1) = omega arith in
-    s ∙ r ∙ ap (λ (x : List ℤ). remap (p + 5 * i) 5 0 (fill (five l a)) x) eb ∙ t ∙ ap (λ (x : ℕ). remap p x 0 f b₀) m
-
--- a loop's end
-pub lines-end : (p i n : ℕ) (f : ℕ → ℤ → ℤ) (b₀ : List ℤ) {b : List ℤ} → i ≤ n → n ≤ i → b ≡ remap p (5 * i) 0 f b₀ → b ≡ remap p (5 * n) 0 f b₀
-lines-end p i n f b₀ h k e = e ∙ ap (λ (x : ℕ). remap p (5 * x) 0 f b₀) (le-antisymm h k)
-
-pub zeros-end : (p i n : ℕ) (f : ℕ → ℤ → ℤ) (b₀ : List ℤ) {b : List ℤ} → i ≤ n → n ≤ i → b ≡ remap p i 0 f b₀ → b ≡ remap p n 0 f b₀
-zeros-end p i n f b₀ h k e = e ∙ ap (λ (x : ℕ). remap p x 0 f b₀) (le-antisymm h k)
+  -- the whole slot: the lines, the six numbers before them, zeros
+  pub slot-filled : (q : NewOrder) (ls : List Line) (p n local : ℕ) (b : List ℤ) → n ≡ length ls → n ≤ 15 → p + 81 ≤ length b
+      → remap (p + (6 + 5 * n)) (81 - (6 + 5 * n)) 0 (fill []) (puts (remap (p + 6) (5 * n) 0 (fill (lineNumbers prices ls)) b) p 0 (headNumbers q n local))
+      ≡ remap p 81 0 (fill (headNumbers q n local ++ lineNumbers prices ls)) b
+  slot-filled q ls p n local b e k room =
+      let head = headNumbers q n local in
+      let rest = lineNumbers prices ls in
+      let f = fill (head ++ rest) in
+      let u = 6 + 5 * n in
+      let s1 : puts b p 0 head ≡ remap p 6 0 f b =
+      puts-row head p b (omega arith) ∙ remap-same p 6 f (fill head) b (omega arith) (λ i y z g. List·getD-append head rest (pos 0) i g) in
+      let s2 : puts (remap (p + 6) (5 * n) 0 (fill rest) b) p 0 head ≡ remap p u 0 f b =
+      puts-past head p 0 (p + 6) (5 * n) (fill rest) b (omega arith)
+      ∙ ap (λ (x : List ℤ). remap (p + 6) (5 * n) 0 (fill rest) x) s1
+      ∙ remap-then p 6 (5 * n) f (fill rest) b (omega arith) (λ i y z g. getD-append-add head rest i (pos 0)) in
+      let long : length (head ++ rest) ≤ u = omega (arith, length-append head rest, length-numbers ls) in
+      let t = remap-then p u (81 - u) f (fill []) b (omega arith) (λ i y z g. List·getD-eq-default (head ++ rest) (pos 0) {n = u + i} (omega arith)) in
+      let m : u + (81 - u) ≡ 81 = omega arith in
+      ap (λ (x : List ℤ). remap (p + u) (81 - u) 0 (fill []) x) s2 ∙ t ∙ ap (λ (x : ℕ). remap p x 0 f b) m
 
 -- one 0 more
 pub zero-filled : (p m i : ℕ) (b₀ b : List ℤ) → i < m → p + m ≤ length b₀ → b ≡ remap p i 0 (fill []) b₀ → {c : List ℤ} → c ≡ set b (p + i) (pos 0) → c ≡ remap p (i + 1) 0 (fill []) b₀
 zero-filled p m i b₀ b h room eb s =
     s ∙ ap (λ (x : List ℤ). set x (p + i) (pos 0)) eb ∙ sym (remap-more p i 0 (fill []) b₀ (omega arith)) ∙ ap (λ (x : ℕ). remap p x 0 (fill []) b₀) (sym (add-one i))
-
--- the whole slot: the lines, the six numbers before them, zeros
-pub slot-filled : (q : NewOrder) (ls : List Line) (xs : List ℕ) (p n local : ℕ) (b : List ℤ) {c1 c2 c3 : List ℤ} → n ≡ length ls → n ≤ 15 → p + 81 ≤ length b
-    → c1 ≡ remap (p + 6) (5 * n) 0 (fill (numbersBy ls xs)) b
-    → c2 ≡ puts c1 p 0 (headNumbers q n local)
-    → c3 ≡ remap (p + (6 + 5 * n)) (81 - (6 + 5 * n)) 0 (fill []) c2
-    → c3 ≡ remap p 81 0 (fill (headNumbers q n local ++ numbersBy ls xs)) b
-slot-filled q ls xs p n local b {c1} {c2} {c3} e k room e1 e2 e3 =
-    let head = headNumbers q n local in
-    let rest = numbersBy ls xs in
-    let f = fill (head ++ rest) in
-    let u = 6 + 5 * n in
-    let s1 : puts b p 0 head ≡ remap p 6 0 f b =
-    puts-row head p b (omega arith) ∙ remap-same p 6 f (fill head) b (omega arith) (λ i y z g. List·getD-append head rest (pos 0) i g) in
-    let s2 : c2 ≡ remap p u 0 f b =
-    e2
-    ∙ ap (λ (x : List ℤ). puts x p 0 head) e1
-    ∙ puts-past head p 0 (p + 6) (5 * n) (fill rest) b (omega arith)
-    ∙ ap (λ (x : List ℤ). remap (p + 6) (5 * n) 0 (fill rest) x) s1
-    ∙ remap-then p 6 (5 * n) f (fill rest) b (omega arith) (λ i y z g. getD-append-add head rest i (pos 0)) in
-    let long : length (head ++ rest) ≤ u = omega (arith, length-append head rest, length-by ls xs) in
-    let t = remap-then p u (81 - u) f (fill []) b (omega arith) (λ i y z g. List·getD-eq-default (head ++ rest) (pos 0) {n = u + i} (omega arith)) in
-    let m : u + (81 - u) ≡ 81 = omega arith in
-    e3 ∙ ap (λ (x : List ℤ). remap (p + u) (81 - u) 0 (fill []) x) s2 ∙ t ∙ ap (λ (x : ℕ). remap p x 0 f b) m
-
--- ── the amounts stand in the front of an array ──
-pub by-prices : (prices : ℕ → ℕ) (ls : List Line) (xs : List ℕ) → take (length ls) xs ≡ amountsOf prices ls → numbersBy ls xs ≡ lineNumbers prices ls
-unfolding numbersBy
-by-prices prices [] xs e = refl
-by-prices prices (l ∷ ls) [] e = absurd (let z : _≡_ {A = ℕ} 0 1 = cc in omega arith)
-by-prices prices (l ∷ ls) (a ∷ xs) e =
-    let h : a ≡ l .quantity * prices (l .item) = ap (λ (x : List ℕ). getD x 0 0) e in
-    let t : take (length ls) xs ≡ amountsOf prices ls = ap (λ (x : List ℕ). drop 1 x) e in
-    rw (h, by-prices prices ls xs t)
