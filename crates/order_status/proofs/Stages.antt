@@ -4,7 +4,7 @@ use mathlib.Core.Path.{_≡_, refl, sym, ap, _∙_}
 use mathlib.Core.Bool.{Bool, true, false}
 use mathlib.Core.Logic.{_≢_}
 use mathlib.Core.List.{List, [], _∷_}
-use Prim.Native.Nat.{ℕ, zero, suc, _+_, _-_, _*_, _≤_, _<_}
+use Prim.Native.Nat.{ℕ, zero, suc, _+_, _-_, _*_, _≤_, _<_, _^_}
 use native.Mathlib.Omega.{arith}
 use lib.Dec.{eqb}
 use lib.IntN.{ℤ, pos}
@@ -21,33 +21,35 @@ use Rattle.model.specs.Rows.{nextOrder, balance, slot, orderRow, orderCustomer,
 use Rattle.model.specs.Head.{dims, headOk}
 use Rattle.model.specs.Names.{Who}
 use Rattle.model.specs.Lists.{largest}
-use Rattle.model.specs.Used.{districtUsed}
+use Rattle.model.specs.Used.{districtUsed, ordersUsed}
 use Rattle.model.specs.Answer.{committed, refused}
 use Rattle.model.specs.OrderStatus.{statusAsked, statusUsed, statusFault, lastOrder, statusCustomer, statusOrder, orderShown, linesShown, statusAnswer, statusLines}
 use Rattle.model.specs.Claim.{R}
 use Rattle.model.proofs.TestLaws.{fault-then, fault-first}
-use Rattle.model.proofs.ListLaws.{largest-none, largest-here, largest-past}
+use Rattle.model.proofs.ListLaws.{largest-here, largest-past}
 use Rattle.model.proofs.Fields.{place-col}
-use Rattle.model.proofs.RowFacts.{OrderIn, district-in}
+use Rattle.model.proofs.RowFacts.{OrderIn, district-in, orders-at}
 use Rattle.model.proofs.StatusFacts.{StatusReady, status-ready, status-asked-numbered}
 use Rattle.model.proofs.RuleLaws.{last-in}
+use Rattle.rows.specs.Book.{Booked}
 use Rattle.rows.proofs.Runs.{order-run}
 use Rattle.order_status.specs.declared.Seen.{Seen}
 use Rattle.order_status.specs.Seen.{seenBy, nothing, isAt}
 
--- ── the scan for the last order ──
-module _ (b : List ℤ) (base c : ℕ) where
-  pub scan-here : (o : ℕ) {x : ℕ} → 0 < o → x ≡ cell b (base + 81 * (o - 1)) → x ≡ c → largest (isAt b base c) o ≡ o
+-- ── the scan for the last order: one row more ──
+module _ (b : List ℤ) (base c o : ℕ) {x : ℕ} (e : x ≡ cell b (base + 81 * o)) where
+  test-is : eqb x c ≡ isAt b base c (o + 1)
   unfolding isAt
-  scan-here o h e f = largest-here (isAt b base c) o (eq-eqb _ _ (sym e ∙ f)) h
+  test-is = let q : o + 1 - 1 ≡ o = omega arith in rw (e, q)
 
-  pub scan-past : (o : ℕ) {x : ℕ} → 0 < o → x ≡ cell b (base + 81 * (o - 1)) → x ≢ c → largest (isAt b base c) o ≡ largest (isAt b base c) (o - 1)
-  unfolding isAt
-  scan-past o h e f = largest-past (isAt b base c) o (ne-eqb _ _ (λ z. f (e ∙ z))) h
+  pub scan-here : x ≡ c → o + 1 ≡ largest (isAt b base c) (o + 1)
+  scan-here f = sym (largest-here (isAt b base c) (o + 1) (sym test-is ∙ eq-eqb x c f) (omega arith))
 
-  pub scan-end : (o : ℕ) → o ≤ 0 → 0 ≡ largest (isAt b base c) o
-  scan-end zero h = sym (largest-none (isAt b base c))
-  scan-end (suc o) h = absurd (omega arith)
+  pub scan-past : {l : ℕ} → l ≡ largest (isAt b base c) o → x ≢ c → l ≡ largest (isAt b base c) (o + 1)
+  scan-past h f =
+      let q : o + 1 - 1 ≡ o = omega arith in
+      let t = largest-past (isAt b base c) (o + 1) (sym test-is ∙ ne-eqb x c f) (omega arith) in
+      h ∙ sym (rw q at t)
 
 -- two tests that agree at each of 1 .. n
 largest-same : (f g : ℕ → Bool) (n : ℕ) → ((j : ℕ) → R n j → f j ≡ g j) → largest f n ≡ largest g n
@@ -78,6 +80,16 @@ module _ (d : Dims) (b : List ℤ) (w k : ℕ) (r : R (d .warehouses) w) (s : R 
       largest-same (isAt b p c) (λ o. eqb (num (shapes d) b (orderCustomer d w k o)) c) (n - 1)
       (λ o t. ap (λ (i : ℕ). eqb (cell b i) c) (ap (λ (i : ℕ). i + 81 * (o - 1)) e ∙ slot-run o (record { lo = t .lo; hi = omega (arith, t .hi) }) .0))
       ∙ ap (λ (m : ℕ). largest (λ o. eqb (num (shapes d) b (orderCustomer d w k o)) c) (m - 1)) f
+
+  -- the customer's number in each row before next is none below 0
+  pub run-held : {p n : ℕ} → Booked d b → districtUsed d b w k ≡ true → ordersUsed d b w k ≡ true → p ≡ place (shapes d) (orderRow d w k 1) → n ≤ num (shapes d) b (nextOrder w k) - 1
+      → (o : ℕ) → o < n → cell b (p + 81 * o) < 2 ^ 63
+  unfolding cell get
+  run-held {p} {n} g u v e f o h =
+      let m = district-in d b w k u .next-high in
+      let i = ap (λ (i : ℕ). i + 81 * o) e ∙ order-run d w k 1 o r s (omega arith) (omega arith) .0 in
+      let t = orders-at d b w k v (1 + o) (record { lo = omega arith; hi = omega arith }) in
+      rw i (omega (arith, t .customer-high, g .dimsd .customers-high))
 
 -- ── the stages of tests, each where the one before finds nothing ──
 module _ (b : List ℤ) (names : List ℕ) (q : OrderStatus) (who : Who) where

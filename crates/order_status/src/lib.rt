@@ -2,18 +2,19 @@ ghost use mathlib.Core.Path.{_≡_};
 ghost use mathlib.Core.Logic.{_≢_};
 ghost use mathlib.Core.Bool.{true};
 ghost use mathlib.Core.List.{[], _∷_};
-ghost use Prim.Native.Nat.{_+_, _*_, _≤_};
+ghost use Prim.Native.Nat.{ℕ, _+_, _*_, _≤_, _<_, _^_};
 ghost use lib.Dec.{leb};
 ghost use lib.IntN.{pos};
 ghost use lib.ListN.{length};
 ghost use Rattle.model.specs.Tests.{every, fault};
+ghost use Rattle.model.specs.Numbers.{cell};
 ghost use Rattle.model.specs.Layout.{shapes, nameBytes};
 ghost use Rattle.model.specs.Store.{get, num};
 ghost use Rattle.model.specs.Rows.{balance, lineCount};
 ghost use Rattle.model.specs.Head.{dims};
 ghost use Rattle.model.specs.Names.{whoOf, whoTests, customerOf};
 ghost use Rattle.model.specs.Lists.{largest};
-ghost use Rattle.model.specs.Used.{districtUsed, whoUsed};
+ghost use Rattle.model.specs.Used.{districtUsed, ordersUsed, whoUsed};
 ghost use Rattle.model.specs.Answer.{statusSays};
 ghost use Rattle.model.specs.OrderStatus.{statusAsked, statusUsed, statusFault, lastOrder, statusCustomer, statusOrder, orderShown, linesShown, statusAnswer, statusLines};
 ghost use Rattle.model.specs.Request.{partOf};
@@ -104,25 +105,26 @@ fn refused(number: u64) -> Seen
     }
 }
 
-// The last of n orders' rows, the first of which starts at base, that is of a customer; 0 where none is.
+// The last of n orders' rows, the first of which starts at base, that is of a customer; 0 where none is. Every row is looked at, from the first on.
 fn last_of(b: &[i64], base: u64, c: u64, n: u64) -> u64
-    requires { ⌜ base + 81 * n ≤ length (now b) ⌝ }
+    requires { ⌜ (base + 81 * n ≤ length (now b)) × ((o : ℕ) → o < n → cell (now b) (base + 81 * o) < 2 ^ 63) ⌝ }
     ensures { λ r. ⌜ r ≡ largest (isAt (now (b .entry)) base c) n ⌝ }
 {
-    let mut o = n;
-    while 0 < o {
-        let customer = cells::get(b, base + 81 * (o - 1));
+    let mut o = 0;
+    let mut last = 0;
+    while o < n {
+        let customer = cells::held(b, base + 81 * o);
+        o += 1;
         if customer == c {
-            return o;
+            last = o;
         }
-        o -= 1;
     }
-    0
+    last
 }
 
-// The largest order number of a customer, 0 where it has none; the district's row has been found in range.
+// The largest order number of a customer, 0 where it has none; the rows of the district and its orders have been found in range.
 fn last_order(b: &[i64], d: Dims, w: u64, k: u64, c: u64) -> u64
-    requires { ⌜ Booked d (now b) × (R (d .warehouses) w × (R 10 k × (districtUsed d (now b) w k ≡ true))) ⌝ }
+    requires { ⌜ Booked d (now b) × (R (d .warehouses) w × (R 10 k × ((districtUsed d (now b) w k ≡ true) × (ordersUsed d (now b) w k ≡ true)))) ⌝ }
     ensures { λ r. ⌜ r ≡ lastOrder d (now (b .entry)) w k c ⌝ }
 {
     let next = rows::next_order(b, d, w, k);

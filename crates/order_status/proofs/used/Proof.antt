@@ -83,7 +83,7 @@ returns-4 c =
 -- src/lib.rt:136:9
 last-order-requires : tie.Need-last-order-requires
 last-order-requires c κs =
-    (shaped-booked (c .before .before .before .before .before .before .before .before .before .before .before .before .pre .0), (c .before .before .before .before .before .before .before .before .before .before .before .before .pre .1 .w, (c .before .before .before .before .before .before .before .before .before .before .before .before .pre .1 .k, (sym (c .before .before .before .before .before .before .before .before .before .district-used .ensures) ∙ not-false (c .before .before .before .before .before .before .before .before .before .district-used .result) (c .before .before .before .before .before .before .before .before .if1 .left)))))
+    (shaped-booked (c .before .before .before .before .before .before .before .before .before .before .before .before .pre .0), (c .before .before .before .before .before .before .before .before .before .before .before .before .pre .1 .w, (c .before .before .before .before .before .before .before .before .before .before .before .before .pre .1 .k, (sym (c .before .before .before .before .before .before .before .before .before .district-used .ensures) ∙ not-false (c .before .before .before .before .before .before .before .before .before .district-used .result) (c .before .before .before .before .before .before .before .before .if1 .left), sym (c .before .before .before .before .before .orders-used .ensures) ∙ not-false (c .before .before .before .before .before .orders-used .result) (c .before .before .before .before .if3 .left)))))
 
 -- src/lib.rt:119:1
 returns-5 : tie.Need-returns-5
