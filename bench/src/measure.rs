@@ -1,4 +1,4 @@
-//! Times every call on one book: all contenders in turn, round by round, the best round of each.
+//! Times every call on one book: all contenders in turn, round by round, the median round of each.
 
 use crate::book::{self, Size};
 use crate::check::Engines;
@@ -10,6 +10,7 @@ use second::layout::Layout;
 use second::replay::{Lent, SecondEngine};
 use second::Request;
 use std::hint::black_box;
+use std::mem::swap;
 use std::time::Instant;
 
 /// Microseconds a call.
@@ -64,14 +65,14 @@ impl Field {
     }
 
     /// One round: the contenders in turn, another one first each time, and the other way round after each has been first.
-    fn round(&mut self, round: usize, requests: &[Request], best: &mut [f64; CONTENDERS]) {
+    fn round(&mut self, round: usize, requests: &[Request], spent: &mut [Vec<f64>; CONTENDERS]) {
         let mut digests = [0; CONTENDERS];
         let back = round / CONTENDERS % 2 == 1;
         for turn in 0..CONTENDERS {
             let step = if back { CONTENDERS - turn } else { turn };
             let contender = (round + step) % CONTENDERS;
-            let (spent, digest) = self.time(contender, requests);
-            best[contender] = best[contender].min(spent);
+            let (micros, digest) = self.time(contender, requests);
+            spent[contender].push(micros);
             digests[contender] = digest;
         }
         assert!(
@@ -79,6 +80,19 @@ impl Field {
             "the engines answered differently"
         );
     }
+
+    /// Hands the books on, which are the same between rounds: no contender keeps the better memory.
+    fn hand_on(&mut self) {
+        let Engines { proved, second, .. } = &mut self.engines;
+        swap(&mut proved.lent, &mut second.lent);
+        swap(&mut second.lent, &mut self.summed.lent);
+    }
+}
+
+/// The middle one.
+fn median(mut spent: Vec<f64>) -> f64 {
+    spent.sort_by(f64::total_cmp);
+    spent[spent.len() / 2]
 }
 
 /// One row for each call; each has its rounds divided by `fewer`.
@@ -102,15 +116,16 @@ pub fn book(size: &Size, fewer: usize) -> Vec<Row> {
 }
 
 fn row(field: &mut Field, asker: &mut Asker, timed: &Timed, fewer: usize) -> Row {
-    let mut best = [f64::MAX; CONTENDERS];
+    let mut spent: [Vec<f64>; CONTENDERS] = Default::default();
     for round in 0..timed.rounds / fewer {
         let requests = asker.batch(timed.call, timed.batch);
-        field.round(round, &requests, &mut best);
+        field.round(round, &requests, &mut spent);
         if timed.call.writes() {
             field.summed.batch(&requests);
         }
+        field.hand_on();
     }
-    let [proved, second, sql, sum] = best;
+    let [proved, second, sql, sum] = spent.map(median);
     Row {
         call: timed.call,
         name: timed.name,
