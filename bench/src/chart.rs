@@ -42,10 +42,10 @@ impl Axis {
 /// The bars of one call, by class, each the speed as a multiple of the second engine's.
 fn bars(row: &Row) -> Vec<(&'static str, f64)> {
     let mut bars = vec![
-        ("proved", row.second / row.proved),
-        ("sql", row.second / row.sql),
+        ("proved", 1.0 / row.to_second),
+        ("sql", row.to_sql / row.to_second),
     ];
-    bars.extend(row.sum.map(|sum| ("sum", row.second / sum)));
+    bars.extend(row.to_sum.map(|times| ("sum", times / row.to_second)));
     bars
 }
 

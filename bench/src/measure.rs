@@ -1,4 +1,4 @@
-//! Times every call on one book: all contenders in turn, round by round, the median round of each.
+//! Times every call on one book: all contenders in turn, round by round.
 
 use crate::book::{self, Size};
 use crate::check::Engines;
@@ -7,13 +7,15 @@ use crate::requests::{Asker, Call, Timed, CALLS};
 use crate::sums;
 use proved::ProvedEngine;
 use second::layout::Layout;
+use second::lists::random::Random;
 use second::replay::{Lent, SecondEngine};
 use second::Request;
 use std::hint::black_box;
 use std::mem::swap;
 use std::time::Instant;
 
-/// Microseconds a call.
+/// Microseconds a call, the median of the rounds; and the proved library's time as a multiple of each other one's, the median of
+/// the quotients round by round, so that a slow moment of the machine weighs on neither side.
 pub struct Row {
     pub call: Call,
     pub name: &'static str,
@@ -21,6 +23,9 @@ pub struct Row {
     pub second: f64,
     pub sql: f64,
     pub sum: Option<f64>,
+    pub to_second: f64,
+    pub to_sql: f64,
+    pub to_sum: Option<f64>,
 }
 
 const CONTENDERS: usize = 4;
@@ -81,18 +86,15 @@ impl Field {
         );
     }
 
-    /// Hands the books on, which are the same between rounds: no contender keeps the better memory.
-    fn hand_on(&mut self) {
+    /// Deals out the books, which are the same between rounds, so that no contender keeps the better memory or the warmest.
+    fn deal(&mut self, random: &mut Random) {
         let Engines { proved, second, .. } = &mut self.engines;
-        swap(&mut proved.lent, &mut second.lent);
-        swap(&mut second.lent, &mut self.summed.lent);
+        match random.below(3) {
+            0 => swap(&mut proved.lent, &mut second.lent),
+            1 => swap(&mut proved.lent, &mut self.summed.lent),
+            _ => swap(&mut second.lent, &mut self.summed.lent),
+        }
     }
-}
-
-/// The middle one.
-fn median(mut spent: Vec<f64>) -> f64 {
-    spent.sort_by(f64::total_cmp);
-    spent[spent.len() / 2]
 }
 
 /// One row for each call; each has its rounds divided by `fewer`.
@@ -116,6 +118,7 @@ pub fn book(size: &Size, fewer: usize) -> Vec<Row> {
 }
 
 fn row(field: &mut Field, asker: &mut Asker, timed: &Timed, fewer: usize) -> Row {
+    let mut random = Random::new(3);
     let mut spent: [Vec<f64>; CONTENDERS] = Default::default();
     for round in 0..timed.rounds / fewer {
         let requests = asker.batch(timed.call, timed.batch);
@@ -123,17 +126,29 @@ fn row(field: &mut Field, asker: &mut Asker, timed: &Timed, fewer: usize) -> Row
         if timed.call.writes() {
             field.summed.batch(&requests);
         }
-        field.hand_on();
+        field.deal(&mut random);
     }
-    let [proved, second, sql, sum] = spent.map(median);
+    let scans = sums::scans(timed.call);
+    let times = |other: usize| median(spent[0].iter().zip(&spent[other]).map(|(p, o)| p / o));
+    let middle = |contender: usize| median(spent[contender].iter().copied());
     Row {
         call: timed.call,
         name: timed.name,
-        proved,
-        second,
-        sql,
-        sum: sums::scans(timed.call).then_some(sum),
+        proved: middle(0),
+        second: middle(1),
+        sql: middle(2),
+        sum: scans.then(|| middle(3)),
+        to_second: times(1),
+        to_sql: times(2),
+        to_sum: scans.then(|| times(3)),
     }
+}
+
+/// The middle one.
+fn median(numbers: impl Iterator<Item = f64>) -> f64 {
+    let mut sorted: Vec<f64> = numbers.collect();
+    sorted.sort_by(f64::total_cmp);
+    sorted[sorted.len() / 2]
 }
 
 /// Carries out one call's rounds on the proved library alone, ten times over.

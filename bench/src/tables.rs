@@ -31,9 +31,9 @@ pub fn compared(title: &str, rows: &[Row]) {
             time(row.second),
             time(row.sql),
             or_dash(row.sum.map(time)),
-            row.proved / row.second,
-            row.proved / row.sql,
-            or_dash(row.sum.map(|sum| format!("{:.2}", row.proved / sum))),
+            row.to_second,
+            row.to_sql,
+            or_dash(row.to_sum.map(|times| format!("{times:.2}"))),
         );
     }
 }
@@ -84,11 +84,11 @@ pub fn missed(books: &[(&str, Vec<Row>)]) {
 
 fn miss(title: &str, row: &Row) -> bool {
     use crate::requests::Call;
-    let to_second = row.proved / row.second;
+    let to_second = row.to_second;
     let to_sum = row
-        .sum
+        .to_sum
         .filter(|_| row.call != Call::PaymentByName)
-        .map_or(0.0, |sum| row.proved / sum);
+        .unwrap_or_default();
     if to_second > 1.0 {
         println!(
             "- {title}, {}: {to_second:.2} times the second engine's time.",
