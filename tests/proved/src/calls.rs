@@ -77,6 +77,14 @@ extern "C" {
     );
 }
 
+/// Calls a function on a lent book: its numbers and its names, each as pointer and length, then the rest.
+macro_rules! on_book {
+    ($call:ident, $nums:expr, $lent:expr, $($rest:expr),+ $(,)?) => {
+        // SAFETY: each pointer goes with its slice's length, and the out arrays have the lengths that the header names.
+        unsafe { $call($nums, $lent.nums.len(), $lent.names.as_ptr(), $lent.names.len(), $($rest),+) }
+    };
+}
+
 /// The proved library.
 pub struct ProvedEngine;
 
@@ -99,30 +107,24 @@ pub(crate) fn who(who: &Who) -> (bool, u64, &[u8]) {
 impl Engine for ProvedEngine {
     fn open(&mut self, lent: &Lent) -> Outcome<()> {
         let mut out = [0; 2];
-        // SAFETY: each pointer goes with its slice's length, and the out array has the length that the header names; so for every call below.
-        unsafe {
-            book_opening(lent.nums.as_ptr(), lent.nums.len(), lent.names.as_ptr(), lent.names.len(), out.as_mut_ptr());
-        }
+        on_book!(book_opening, lent.nums.as_ptr(), lent, out.as_mut_ptr());
         outcome(&out, ())
     }
 
     fn new_order(&mut self, lent: &mut Lent, request: &NewOrder) -> Outcome<NewOrderFigures> {
         let mut out = [0; 4];
-        unsafe {
-            book_new_order(
-                lent.nums.as_mut_ptr(),
-                lent.nums.len(),
-                lent.names.as_ptr(),
-                lent.names.len(),
-                request.warehouse,
-                request.district,
-                request.customer,
-                request.date,
-                request.lines.as_ptr(),
-                request.lines.len(),
-                out.as_mut_ptr(),
-            );
-        }
+        on_book!(
+            book_new_order,
+            lent.nums.as_mut_ptr(),
+            lent,
+            request.warehouse,
+            request.district,
+            request.customer,
+            request.date,
+            request.lines.as_ptr(),
+            request.lines.len(),
+            out.as_mut_ptr(),
+        );
         outcome(&out, NewOrderFigures { order: out[2], total: out[3] })
     }
 
@@ -130,45 +132,39 @@ impl Engine for ProvedEngine {
         let (named, number, name) = who(&request.who);
         let mut out = [0; 3];
         let mut balance = [0; 1];
-        unsafe {
-            book_payment(
-                lent.nums.as_mut_ptr(),
-                lent.nums.len(),
-                lent.names.as_ptr(),
-                lent.names.len(),
-                request.warehouse,
-                request.district,
-                request.customer_warehouse,
-                request.customer_district,
-                named,
-                number,
-                name.as_ptr(),
-                name.len(),
-                request.date,
-                request.amount,
-                out.as_mut_ptr(),
-                balance.as_mut_ptr(),
-            );
-        }
+        on_book!(
+            book_payment,
+            lent.nums.as_mut_ptr(),
+            lent,
+            request.warehouse,
+            request.district,
+            request.customer_warehouse,
+            request.customer_district,
+            named,
+            number,
+            name.as_ptr(),
+            name.len(),
+            request.date,
+            request.amount,
+            out.as_mut_ptr(),
+            balance.as_mut_ptr(),
+        );
         outcome(&out, PaymentFigures { customer: out[2], balance: balance[0] })
     }
 
     fn delivery(&mut self, lent: &mut Lent, request: &Delivery) -> DeliveryAnswer {
         let mut out = [0; 4];
         let mut orders = [0; 10];
-        unsafe {
-            book_delivery(
-                lent.nums.as_mut_ptr(),
-                lent.nums.len(),
-                lent.names.as_ptr(),
-                lent.names.len(),
-                request.warehouse,
-                request.carrier,
-                request.date,
-                out.as_mut_ptr(),
-                orders.as_mut_ptr(),
-            );
-        }
+        on_book!(
+            book_delivery,
+            lent.nums.as_mut_ptr(),
+            lent,
+            request.warehouse,
+            request.carrier,
+            request.date,
+            out.as_mut_ptr(),
+            orders.as_mut_ptr(),
+        );
         DeliveryAnswer {
             outcome: outcome(&out, DeliveryFigures { skip_count: out[2], skip_mark: out[3] }),
             orders,
@@ -179,22 +175,19 @@ impl Engine for ProvedEngine {
         let (named, number, name) = who(&request.who);
         let mut out = [0; 8];
         let mut balance = [0; 1];
-        unsafe {
-            book_order_status(
-                lent.nums.as_ptr(),
-                lent.nums.len(),
-                lent.names.as_ptr(),
-                lent.names.len(),
-                request.warehouse,
-                request.district,
-                named,
-                number,
-                name.as_ptr(),
-                name.len(),
-                out.as_mut_ptr(),
-                balance.as_mut_ptr(),
-            );
-        }
+        on_book!(
+            book_order_status,
+            lent.nums.as_ptr(),
+            lent,
+            request.warehouse,
+            request.district,
+            named,
+            number,
+            name.as_ptr(),
+            name.len(),
+            out.as_mut_ptr(),
+            balance.as_mut_ptr(),
+        );
         let figures = OrderStatusFigures {
             customer: out[2],
             balance: balance[0],
@@ -211,18 +204,15 @@ impl Engine for ProvedEngine {
 
     fn stock_level(&mut self, lent: &Lent, request: &StockLevel) -> Outcome<StockLevelFigures> {
         let mut out = [0; 3];
-        unsafe {
-            book_stock_level(
-                lent.nums.as_ptr(),
-                lent.nums.len(),
-                lent.names.as_ptr(),
-                lent.names.len(),
-                request.warehouse,
-                request.district,
-                request.threshold,
-                out.as_mut_ptr(),
-            );
-        }
+        on_book!(
+            book_stock_level,
+            lent.nums.as_ptr(),
+            lent,
+            request.warehouse,
+            request.district,
+            request.threshold,
+            out.as_mut_ptr(),
+        );
         outcome(&out, StockLevelFigures { low_stock: out[2] })
     }
 
