@@ -1,13 +1,13 @@
 -- What the code stores, having read everything before, is the model's list of changes done in turn; and the stages of a payment's tests.
 -- Assumes nothing.
 use mathlib.Core.Path.{_≡_, refl, sym, ap, _∙_}
-use mathlib.Core.Bool.{true, false}
+use mathlib.Core.Bool.{Bool, true, false, not, _&&_}
 use mathlib.Core.List.{List, [], _∷_}
 use mathlib.Core.Logic.{_≢_}
 use Prim.Native.Nat.{ℕ, suc, _+_, _≤_}
 use native.Mathlib.Numerals.{add-one}
 use native.Mathlib.Omega.{arith}
-use borrow.Author.Tests.{eq-eqb, ne-eqb}
+use borrow.Author.Tests.{eq-eqb, ne-eqb, not-true, not-false}
 use lib.ListN.{length, drop, set, length-set}
 use lib.IntN.{ℤ, pos, _+ℤ_, _-ℤ_}
 use Rattle.model.specs.declared.Dims.{Dims}
@@ -26,7 +26,7 @@ use Rattle.model.proofs.NumberLaws.{raised}
 use Rattle.model.proofs.Fields.{v7, row-end, head-place, place-col}
 use Rattle.model.proofs.Rewrite.{puts-row}
 use Rattle.model.proofs.InTurn.{in-turn}
-use Rattle.model.proofs.TestLaws.{fault-then, fault-first}
+use Rattle.model.proofs.TestLaws.{and-left, and-right, fault-then, fault-first}
 use Rattle.model.proofs.PaymentFacts.{PayReady, pay-ready, pay-fine, pay-asked-numbered}
 use Rattle.payment.specs.declared.Payer.{Payer}
 use Rattle.payment.specs.Plan.{payerBy, nobody, Payable, planOf, storePlan, Small}
@@ -94,10 +94,21 @@ col d s x y z k = place-col (shapes d) [] s x y z k
 
 module _ (b : List ℤ) (names : List ℕ) (q : Payment) (who : Who) where
   -- ── the stages of tests, each where the one before finds nothing ──
-  pub used-rest : (d : Dims) {p : Payer} → warehouseUsed d b (q .warehouse) ≡ true → districtUsed d b (q .warehouse) (q .district) ≡ true
+  pub used-none : (d : Dims) {t : Bool} → t ≡ (warehouseUsed d b (q .warehouse) && districtUsed d b (q .warehouse) (q .district)) → not t ≡ true
+      → nobody 9 ≡ payerBy (fault (payUsed d b names q who)) (payer d names q who)
+  unfolding payUsed
+  used-none d {t} e s = go (warehouseUsed d b (q .warehouse)) (districtUsed d b (q .warehouse) (q .district)) refl refl (sym e ∙ not-true t s)
+    where
+      go : (x y : Bool) → warehouseUsed d b (q .warehouse) ≡ x → districtUsed d b (q .warehouse) (q .district) ≡ y → (warehouseUsed d b (q .warehouse) && districtUsed d b (q .warehouse) (q .district)) ≡ false
+          → nobody 9 ≡ payerBy (fault (payUsed d b names q who)) (payer d names q who)
+      go false y f g h = rw f
+      go true false f g h = rw (f, g)
+      go true true f g h = absurd (let w : true ≡ false = rw (f, g) at h in let z : _≡_ {A = ℕ} 0 1 = cc in omega arith)
+
+  pub used-rest : (d : Dims) {t : Bool} {p : Payer} → t ≡ (warehouseUsed d b (q .warehouse) && districtUsed d b (q .warehouse) (q .district)) → not t ≡ false
       → p ≡ payerBy (fault (drop 2 (payUsed d b names q who))) (payer d names q who) → p ≡ payerBy (fault (payUsed d b names q who)) (payer d names q who)
   unfolding payUsed
-  used-rest d e f g = rw (e, f) g
+  used-rest d {t} e s g = let h = sym e ∙ not-false t s in rw (and-left (warehouseUsed d b (q .warehouse)) (districtUsed d b (q .warehouse) (q .district)) h, and-right (warehouseUsed d b (q .warehouse)) (districtUsed d b (q .warehouse) (q .district)) h) g
 
   pub head-answer : headOk b (length names) ≡ false → refused (record { number = 2; detail = 0 }) ≡ paymentAnswer b names q who
   unfolding paymentAnswer paymentFault

@@ -1,5 +1,5 @@
 ghost use mathlib.Core.Path.{_≡_};
-ghost use mathlib.Core.Bool.{true};
+ghost use mathlib.Core.Bool.{true, _&&_};
 ghost use mathlib.Core.List.{[], _∷_};
 ghost use Prim.Native.Nat.{_+_, _≤_};
 ghost use lib.Dec.{leb};
@@ -7,12 +7,15 @@ ghost use lib.ListN.{length, drop};
 ghost use Rattle.model.specs.Tests.{every, fault};
 ghost use Rattle.model.specs.Numbers.{maxDate};
 ghost use Rattle.model.specs.Head.{dims, headOk};
+ghost use Rattle.model.specs.Used.{warehouseUsed, districtUsed};
+ghost use Rattle.model.specs.Claim.{R};
 ghost use Rattle.model.specs.Names.{byNumber, byName, whoOf};
 ghost use Rattle.model.specs.Answer.{paymentSays};
 ghost use Rattle.model.specs.Payment.{payAsked, payUsed, paymentFault, payer, historyNumbers, paidBalance, paymentCommit, paymentAnswer, paymentBook};
 ghost use Rattle.model.proofs.Fields.{Shaped};
 ghost use Rattle.model.proofs.PaymentFacts.{PayAsked};
 ghost use Rattle.model.proofs.Rewrite.{puts};
+ghost use Rattle.rows.specs.Book.{Booked};
 ghost use Rattle.payment.specs.Plan.{payerBy, nobody, Payable, planOf, Storable, Small, storePlan};
 use model::Dims;
 use model::Found;
@@ -172,15 +175,22 @@ fn by_name(b: &[i64], names: &[u8], d: Dims, q: Payment, name: &[u8]) -> Payer
     with_room(b, names, d, q, c)
 }
 
+// 9: the rows of the terminal's warehouse and district are in range.
+fn terminal_used(b: &[i64], d: Dims, q: Payment) -> bool
+    requires { ⌜ Booked d (now b) × (R (d .warehouses) (q .warehouse) × R 10 (q .district)) ⌝ }
+    ensures { λ r. ⌜ r ≡ (warehouseUsed d (now (b .entry)) (q .warehouse) && districtUsed d (now (b .entry)) (q .warehouse) (q .district)) ⌝ }
+{
+    let warehouse = rows::warehouse_used(b, d, q.warehouse);
+    let district = rows::district_used(b, d, q.warehouse, q.district);
+    warehouse & district
+}
+
 // The first refusal that the rows and names decide, and who pays.
 fn used(b: &[i64], names: &[u8], d: Dims, q: Payment, who: Selection, name: &[u8]) -> Payer
     requires { ⌜ Shaped d (now b) (length (now names)) × PayAsked d q (whoOf who (now name)) ⌝ }
     ensures { λ r. ⌜ r ≡ payerBy (fault (payUsed d (now (b .entry)) (now (names .entry)) q (whoOf who (now (name .entry))))) (payer d (now (names .entry)) q (whoOf who (now (name .entry)))) ⌝ }
 {
-    if !rows::warehouse_used(b, d, q.warehouse) {
-        return refused(9);
-    }
-    if !rows::district_used(b, d, q.warehouse, q.district) {
+    if !terminal_used(b, d, q) {
         return refused(9);
     }
     match who {
