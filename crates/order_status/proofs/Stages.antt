@@ -1,7 +1,7 @@
--- The scan for the last order, the stages of a status's tests, and what is shown.
+-- The scan of the orders, the stages of a status's tests, and what is shown.
 -- Assumes nothing.
 use mathlib.Core.Path.{_≡_, refl, sym, ap, _∙_}
-use mathlib.Core.Bool.{Bool, true, false}
+use mathlib.Core.Bool.{Bool, true, false, not, cond}
 use mathlib.Core.Logic.{_≢_}
 use mathlib.Core.List.{List, [], _∷_}
 use Prim.Native.Nat.{ℕ, zero, suc, _+_, _-_, _*_, _≤_, _<_, _^_}
@@ -9,32 +9,33 @@ use native.Mathlib.Omega.{arith}
 use lib.Dec.{eqb}
 use lib.IntN.{ℤ, pos}
 use lib.ListN.{length, take, drop}
-use borrow.Author.Tests.{eq-eqb, ne-eqb}
+use borrow.Author.Tests.{eq-eqb, ne-eqb, leb-true, not-true, not-false}
 use Rattle.model.specs.declared.Dims.{Dims}
 use Rattle.model.specs.declared.OrderStatus.{OrderStatus}
 use Rattle.model.specs.declared.Refusal.{Refusal}
-use Rattle.model.specs.Tests.{fault}
-use Rattle.model.specs.Numbers.{cell}
+use Rattle.model.specs.Tests.{every, allTo, fault}
+use Rattle.model.specs.Numbers.{nat, cell}
 use Rattle.model.specs.Layout.{shapes, place, numbers}
-use Rattle.model.specs.Store.{get, num}
-use Rattle.model.specs.Rows.{nextOrder, balance, slot, orderRow, orderCustomer, entryDate, carrier, lineCount}
+use Rattle.model.specs.Store.{get, num, from}
+use Rattle.model.specs.Rows.{nextOrder, balance, slot, orderRow, orderCustomer, entryDate, carrier, lineCount, line, lineTests, orderTests, orderOk}
 use Rattle.model.specs.Head.{dims, headOk}
 use Rattle.model.specs.Names.{Who}
 use Rattle.model.specs.Lists.{largest}
-use Rattle.model.specs.Used.{districtUsed, ordersUsed}
+use Rattle.model.specs.Used.{districtUsed, orderUsed, ordersUsed}
 use Rattle.model.specs.Answer.{committed, refused}
 use Rattle.model.specs.OrderStatus.{statusAsked, statusUsed, statusFault, lastOrder, statusCustomer, statusOrder, orderShown, linesShown, statusAnswer, statusLines}
 use Rattle.model.specs.Claim.{R}
-use Rattle.model.proofs.TestLaws.{fault-then, fault-first}
+use Rattle.model.proofs.TestLaws.{fault-then, fault-first, every-each, and-left, all-same}
 use Rattle.model.proofs.ListLaws.{largest-here, largest-past}
-use Rattle.model.proofs.Fields.{place-col}
-use Rattle.model.proofs.RowFacts.{OrderIn, district-in, orders-at}
+use Rattle.model.proofs.Fields.{Dimensioned, place-col}
+use Rattle.model.proofs.RowFacts.{OrderIn, district-in}
 use Rattle.model.proofs.StatusFacts.{StatusReady, status-ready, status-asked-numbered}
 use Rattle.model.proofs.RuleLaws.{last-in}
-use Rattle.rows.specs.Book.{Booked}
+use Rattle.rows.proofs.RowTests.{order-test}
 use Rattle.rows.proofs.Runs.{order-run}
 use Rattle.order_status.specs.declared.Seen.{Seen}
-use Rattle.order_status.specs.Seen.{seenBy, nothing, isAt}
+use Rattle.order_status.specs.declared.Scanned.{Scanned}
+use Rattle.order_status.specs.Seen.{seenBy, nothing, scannedBy, okAt, isAt}
 
 -- ── the scan for the last order: one row more ──
 module _ (b : List ℤ) (base c o : ℕ) {x : ℕ} (e : x ≡ cell b (base + 81 * o)) where
@@ -50,6 +51,20 @@ module _ (b : List ℤ) (base c o : ℕ) {x : ℕ} (e : x ≡ cell b (base + 81 
       let q : o + 1 - 1 ≡ o = omega arith in
       let t = largest-past (isAt b base c) (o + 1) (sym test-is ∙ ne-eqb x c f) (omega arith) in
       h ∙ sym (rw q at t)
+
+-- ── a row that the scan judges ──
+module _ (d : Dims) (b : List ℤ) (base o : ℕ) {t : Bool} (e : t ≡ orderOk d (from b (base + 81 * o))) where
+  pub row-test : t ≡ okAt d b base (o + 1)
+  unfolding okAt
+  row-test = let q : o + 1 - 1 ≡ o = omega arith in rw q e
+
+  -- the customer's number in a row in range is none below 0
+  pub row-held : Dimensioned d → not t ≡ false → cell b (base + 81 * o) < 2 ^ 63
+  unfolding orderOk orderTests from cell
+  row-held g f =
+      let r = from b (base + 81 * o) in
+      let h = every-each (orderTests d r) (and-left (every (orderTests d r)) (allTo (nat (r 3)) (λ j. every (lineTests d (line r j)))) (sym e ∙ not-false t f)) in
+      omega (arith, leb-true (nat (r 0)) (d .customers) (h .1 .0), g .customers-high)
 
 -- two tests that agree at each of 1 .. n
 largest-same : (f g : ℕ → Bool) (n : ℕ) → ((j : ℕ) → R n j → f j ≡ g j) → largest f n ≡ largest g n
@@ -72,24 +87,38 @@ module _ (d : Dims) (b : List ℤ) (w k : ℕ) (r : R (d .warehouses) w) (s : R 
   run-end zero h e f = omega arith
   run-end (suc n) h e f = let t = slot-run (suc n) (record { lo = omega arith; hi = h }) in omega (arith, t)
 
-  pub scanned : (c : ℕ) {p n : ℕ} → districtUsed d b w k ≡ true → p ≡ place (shapes d) (orderRow d w k 1) → n ≡ num (shapes d) b (nextOrder w k)
+  last-is : (c : ℕ) {p n : ℕ} → districtUsed d b w k ≡ true → p ≡ place (shapes d) (orderRow d w k 1) → n ≡ num (shapes d) b (nextOrder w k)
       → largest (isAt b p c) (n - 1) ≡ lastOrder d b w k c
   unfolding isAt lastOrder cell get
-  scanned c {p} {n} u e f =
+  last-is c {p} {n} u e f =
       let g : n ≤ d .orders + 1 = rw f (district-in d b w k u .next-high) in
       largest-same (isAt b p c) (λ o. eqb (num (shapes d) b (orderCustomer d w k o)) c) (n - 1)
       (λ o t. ap (λ (i : ℕ). eqb (cell b i) c) (ap (λ (i : ℕ). i + 81 * (o - 1)) e ∙ slot-run o (record { lo = t .lo; hi = omega (arith, t .hi) }) .0))
       ∙ ap (λ (m : ℕ). largest (λ o. eqb (num (shapes d) b (orderCustomer d w k o)) c) (m - 1)) f
 
-  -- the customer's number in each row before next is none below 0
-  pub run-held : {p n : ℕ} → Booked d b → districtUsed d b w k ≡ true → ordersUsed d b w k ≡ true → p ≡ place (shapes d) (orderRow d w k 1) → n ≤ num (shapes d) b (nextOrder w k) - 1
-      → (o : ℕ) → o < n → cell b (p + 81 * o) < 2 ^ 63
-  unfolding cell get
-  run-held {p} {n} g u v e f o h =
-      let m = district-in d b w k u .next-high in
-      let i = ap (λ (i : ℕ). i + 81 * o) e ∙ order-run d w k 1 o r s (omega arith) (omega arith) .0 in
-      let t = orders-at d b w k v (1 + o) (record { lo = omega arith; hi = omega arith }) in
-      rw i (omega (arith, t .customer-high, g .dimsd .customers-high))
+  all-fine : {p n : ℕ} → districtUsed d b w k ≡ true → p ≡ place (shapes d) (orderRow d w k 1) → n ≡ num (shapes d) b (nextOrder w k)
+      → allTo (n - 1) (okAt d b p) ≡ ordersUsed d b w k
+  unfolding okAt ordersUsed
+  all-fine {p} {n} u e f =
+      let g : n ≤ d .orders + 1 = rw f (district-in d b w k u .next-high) in
+      all-same (okAt d b p) (orderUsed d b w k) (n - 1)
+      (λ o t. order-test d b w k o (ap (λ (i : ℕ). i + 81 * (o - 1)) e ∙ slot-run o (record { lo = t .lo; hi = omega (arith, t .hi) }) .0) refl)
+      ∙ ap (λ (m : ℕ). allTo (m - 1) (orderUsed d b w k)) f
+
+  pub scanned : (c : ℕ) {p n : ℕ} {s : Scanned} → districtUsed d b w k ≡ true → p ≡ place (shapes d) (orderRow d w k 1) → n ≡ num (shapes d) b (nextOrder w k)
+      → s ≡ scannedBy (allTo (n - 1) (okAt d b p)) (largest (isAt b p c) (n - 1)) → s ≡ scannedBy (ordersUsed d b w k) (lastOrder d b w k c)
+  scanned c u e f g = g ∙ rw (all-fine u e f, last-is c u e f)
+
+-- what the scan found, by whether it found all in range
+module _ (t : Bool) (o : ℕ) {s : Scanned} (e : s ≡ scannedBy t o) where
+  pub scan-unfit : not (s .fine) ≡ true → t ≡ false
+  scan-unfit h = sym (ap (λ (x : Scanned). x .fine) e) ∙ not-true (s .fine) h
+
+  pub scan-fine : not (s .fine) ≡ false → t ≡ true
+  scan-fine h = sym (ap (λ (x : Scanned). x .fine) e) ∙ not-false (s .fine) h
+
+  pub scan-last : not (s .fine) ≡ false → s .last ≡ o
+  scan-last h = ap (λ (x : Scanned). x .last) e ∙ ap (λ (x : Bool). cond x o 0) (scan-fine h)
 
 -- ── the stages of tests, each where the one before finds nothing ──
 module _ (b : List ℤ) (names : List ℕ) (q : OrderStatus) (who : Who) where

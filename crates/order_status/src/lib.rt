@@ -2,17 +2,16 @@ ghost use mathlib.Core.Path.{_≡_};
 ghost use mathlib.Core.Logic.{_≢_};
 ghost use mathlib.Core.Bool.{true};
 ghost use mathlib.Core.List.{[], _∷_};
-ghost use Prim.Native.Nat.{ℕ, _+_, _*_, _≤_, _<_, _^_};
+ghost use Prim.Native.Nat.{_+_, _*_, _≤_};
 ghost use lib.Dec.{leb};
 ghost use lib.IntN.{pos};
 ghost use lib.ListN.{length};
-ghost use Rattle.model.specs.Tests.{every, fault};
-ghost use Rattle.model.specs.Numbers.{cell};
+ghost use Rattle.model.specs.Tests.{every, allTo, fault};
 ghost use Rattle.model.specs.Layout.{shapes, nameBytes};
 ghost use Rattle.model.specs.Store.{get, num};
 ghost use Rattle.model.specs.Rows.{balance, lineCount};
 ghost use Rattle.model.specs.Head.{dims};
-ghost use Rattle.model.specs.Names.{whoOf, whoTests, customerOf};
+ghost use Rattle.model.specs.Names.{whoOf, whoTests, customerOf, foundNumber};
 ghost use Rattle.model.specs.Lists.{largest};
 ghost use Rattle.model.specs.Used.{districtUsed, ordersUsed, whoUsed};
 ghost use Rattle.model.specs.Answer.{statusSays};
@@ -22,7 +21,7 @@ ghost use Rattle.model.specs.Claim.{R};
 ghost use Rattle.model.proofs.Fields.{Dimensioned, Shaped};
 ghost use Rattle.model.proofs.StatusFacts.{StatusAsked};
 ghost use Rattle.rows.specs.Book.{Booked};
-ghost use Rattle.order_status.specs.Seen.{seenBy, nothing, isAt};
+ghost use Rattle.order_status.specs.Seen.{seenBy, nothing, scannedBy, okAt, isAt};
 use model::Dims;
 use model::Found;
 use model::OrderStatus;
@@ -37,6 +36,12 @@ pub struct Seen {
     pub refusal: Refusal,
     pub customer: u64,
     pub order: u64,
+}
+
+// What one pass over orders' rows finds: whether all are in range, and the last that is of a customer where they are, 0 where none is.
+pub struct Scanned {
+    pub fine: bool,
+    pub last: u64,
 }
 
 // What a status answers: the outcome, and the part of the book that holds the shown lines.
@@ -105,32 +110,39 @@ fn refused(number: u64) -> Seen
     }
 }
 
-// The last of n orders' rows, the first of which starts at base, that is of a customer; 0 where none is. Every row is looked at, from the first on.
-fn last_of(b: &[i64], base: u64, c: u64, n: u64) -> u64
-    requires { ⌜ (base + 81 * n ≤ length (now b)) × ((o : ℕ) → o < n → cell (now b) (base + 81 * o) < 2 ^ 63) ⌝ }
-    ensures { λ r. ⌜ r ≡ largest (isAt (now (b .entry)) base c) n ⌝ }
+// One pass over n orders' rows, the first of which starts at base: whether each is in range, and the last that is of a customer, 0 where none is.
+fn scan(b: &[i64], d: Dims, base: u64, c: u64, n: u64) -> Scanned
+    requires { ⌜ Dimensioned d × (base + 81 * n ≤ length (now b)) ⌝ }
+    ensures { λ r. ⌜ r ≡ scannedBy (allTo n (okAt d (now (b .entry)) base)) (largest (isAt (now (b .entry)) base c) n) ⌝ }
 {
     let mut o = 0;
     let mut last = 0;
     while o < n {
-        let customer = cells::held(b, base + 81 * o);
+        let p = base + 81 * o;
+        if !rows::order_ok(b, d, p) {
+            return Scanned {
+                fine: false,
+                last: 0,
+            };
+        }
+        let customer = cells::held(b, p);
         o += 1;
         if customer == c {
             last = o;
         }
     }
-    last
+    Scanned { fine: true, last }
 }
 
-// The largest order number of a customer, 0 where it has none; the rows of the district and its orders have been found in range.
-fn last_order(b: &[i64], d: Dims, w: u64, k: u64, c: u64) -> u64
-    requires { ⌜ Booked d (now b) × (R (d .warehouses) w × (R 10 k × ((districtUsed d (now b) w k ≡ true) × (ordersUsed d (now b) w k ≡ true)))) ⌝ }
-    ensures { λ r. ⌜ r ≡ lastOrder d (now (b .entry)) w k c ⌝ }
+// The orders before next are in range, and the largest order number of a customer, 0 where it has none; the district's row has been found in range.
+fn orders_scanned(b: &[i64], d: Dims, w: u64, k: u64, c: u64) -> Scanned
+    requires { ⌜ Booked d (now b) × (R (d .warehouses) w × (R 10 k × (districtUsed d (now b) w k ≡ true))) ⌝ }
+    ensures { λ r. ⌜ r ≡ scannedBy (ordersUsed d (now (b .entry)) w k) (lastOrder d (now (b .entry)) w k c) ⌝ }
 {
     let next = rows::next_order(b, d, w, k);
     let base = layout::order_at(d, w, k, 1);
     let n = next - 1;
-    last_of(b, base, c, n)
+    scan(b, d, base, c, n)
 }
 
 // The customer that a request names, by number or by last name.
@@ -141,6 +153,16 @@ fn customer_of(names: &[u8], d: Dims, w: u64, k: u64, who: Selection, name: &[u8
     match who {
         Selection::Number(c) => Found::Customer(c),
         Selection::LastName => lookup::find(names, d, w, k, name),
+    }
+}
+
+// The number of a customer that was found, 0 for nobody.
+fn number_of(found: Found) -> u64
+    ensures { λ r. ⌜ r ≡ foundNumber found ⌝ }
+{
+    match found {
+        Found::Customer(c) => c,
+        Found::Nobody => 0,
     }
 }
 
@@ -166,14 +188,16 @@ fn used(b: &[i64], names: &[u8], d: Dims, q: OrderStatus, who: Selection, name: 
     if !who_used(b, names, d, q.warehouse, q.district, who, name) {
         return refused(9);
     }
-    if !rows::orders_used(b, d, q.warehouse, q.district) {
+    let found = customer_of(names, d, q.warehouse, q.district, who, name);
+    let number = number_of(found);
+    let s = orders_scanned(b, d, q.warehouse, q.district, number);
+    if !s.fine {
         return refused(9);
     }
-    let found = customer_of(names, d, q.warehouse, q.district, who, name);
     let Found::Customer(c) = found else {
         return refused(10);
     };
-    let order = last_order(b, d, q.warehouse, q.district, c);
+    let order = s.last;
     let refusal = Refusal {
         number: 0,
         detail: 0,
