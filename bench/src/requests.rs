@@ -38,8 +38,8 @@ const fn timed(call: Call, name: &'static str, batch: usize, rounds: usize) -> T
 
 /// Every row. A batch is short, so that among its rounds some are undisturbed; New-Orders are as many as a nearly full book has room for.
 pub const CALLS: [Timed; 8] = [
-    timed(Call::NewOrder, "New-Order", 75, 24),
-    timed(Call::PaymentByNumber, "Payment by number", 300, 24),
+    timed(Call::NewOrder, "New-Order", 45, 40),
+    timed(Call::PaymentByNumber, "Payment by number", 150, 48),
     timed(Call::PaymentByName, "Payment by name", 45, 32),
     timed(Call::Delivery, "Delivery", 2, 64),
     timed(Call::StatusByNumber, "Order-Status by number", 10, 64),
