@@ -11,6 +11,7 @@ use lib.IntN.{ℤ}
 use lib.ListN.{length, getD, take, drop, set, drop-of-length-le}
 use lib.Seq.{drop-cons, length-take-le, take-suc-set}
 use borrow.Author.Tests.{lt-ltb, le-ltb}
+use Rattle.model.specs.Request.{lent}
 use Rattle.model.specs.RequestLine.{readLine}
 use Rattle.model.specs.AnswerLine.{leftAfter}
 use Rattle.desk.specs.Input.{kept, bookAfter, lineAfter}
@@ -29,14 +30,14 @@ kept-full line n x h k e =
 -- a turn: the byte at i, the line kept and the book that it leaves
 module _ (names block : List ℕ) (i : ℕ) (h : i < length block) where
   pub book-turn : (b b' : List ℤ) (p line : List ℕ) (n n' : ℕ) → take n line ≡ kept p (getD block i 0) → n' ≡ cond (eqb (getD block i 0) 10) 0 n
-      → b' ≡ cond (eqb (getD block i 0) 10) (leftAfter b names (readLine (take n line))) b
+      → b' ≡ cond (eqb (getD block i 0) 10) (leftAfter (lent b names) (readLine (take n line)) .nums) b
       → bookAfter b names p (drop i block) ≡ bookAfter b' names (take n' line) (drop (i + 1) block)
   unfolding bookAfter
   book-turn b b' p line n n' e f g =
       rw (drop-cons block i 0 h, add-one i, ← e, f, g) (go (eqb (getD block i 0) 10))
     where
-      go : (t : Bool) → cond t (bookAfter (leftAfter b names (readLine (take n line))) names [] (drop (suc i) block)) (bookAfter b names (take n line) (drop (suc i) block))
-          ≡ bookAfter (cond t (leftAfter b names (readLine (take n line))) b) names (take (cond t 0 n) line) (drop (suc i) block)
+      go : (t : Bool) → cond t (bookAfter (leftAfter (lent b names) (readLine (take n line)) .nums) names [] (drop (suc i) block)) (bookAfter b names (take n line) (drop (suc i) block))
+          ≡ bookAfter (cond t (leftAfter (lent b names) (readLine (take n line)) .nums) b) names (take (cond t 0 n) line) (drop (suc i) block)
       go true = refl
       go false = refl
 

@@ -24,7 +24,7 @@ use Rattle.model.specs.Answer.{Answer, committed, refused, requestSays}
 use Rattle.model.specs.Names.{Who, byNumber, byName, whoOf}
 use Rattle.model.specs.Head.{dims}
 use Rattle.model.specs.OrderStatus.{statusFault, statusOrder, linesShown, statusLines}
-use Rattle.model.specs.Request.{Request, newOrder, payment, delivery, orderStatus, stockLevel, linesOf, shownOf, partOf, after}
+use Rattle.model.specs.Request.{Request, newOrder, payment, delivery, orderStatus, stockLevel, lent, linesOf, shownOf, partOf, after}
 use Rattle.model.specs.RequestLine.{letter, Reading, read, noForm, padTo, itemsOf, suppliesOf, quantitiesOf, selection, nameOfWho, storedLines, storedName, stored, readLine}
 use Rattle.model.specs.AnswerLine.{printed, told, answerLine, noFormLine, printedFor, leftAfter}
 use Rattle.model.proofs.StatusFacts.{StatusUsed, status-ready, last-in}
@@ -73,7 +73,7 @@ sample-letter (RequestCase.OrderStatus o) = refl
 sample-letter (RequestCase.StockLevel o) = refl
 
 -- the line of what a request was answered is the request's
-pub line-told : (b : List ℤ) (names : List ℕ) (q : Request) (r : RequestAnswer) (left : List ℤ) → Carried b names q r left → outcomeLine (r .outcome) (r .orders) (partOf (r .part) left) ≡ answerLine b names q
+pub line-told : (b : List ℤ) (names : List ℕ) (q : Request) (r : RequestAnswer) (left : List ℤ) → Carried (lent b names) q r (lent left names) → outcomeLine (r .outcome) (r .orders) (partOf (r .part) left) ≡ answerLine (lent b names) q
 unfolding outcomeLine answerLine
 line-told b names q r left c =
     let k : letter (sample (r .outcome)) ≡ letter q = sym (sample-letter (r .outcome)) ∙ c .kind in
@@ -101,7 +101,7 @@ status-most b names q who = go (eqb (statusFault b names q who .number) 0) refl
     go true e = lines-most b names q who (statusOrder (dims b) b names q who) refl (status-ready b names q who (eqb-true _ _ e) .used)
     go false e = omega arith
 
-pub shown-most : (b : List ℤ) (names : List ℕ) (q : Request) → length (shownOf b names q) ≤ 75
+pub shown-most : (b : List ℤ) (names : List ℕ) (q : Request) → length (shownOf (lent b names) q) ≤ 75
 unfolding shownOf
 shown-most b names (newOrder q lines) = omega arith
 shown-most b names (payment q who) = omega arith
@@ -184,17 +184,17 @@ stored-held noForm = held-lines [] []
 
 -- ── an answer written, and a step ──
 -- the shown part, as code lends it
-pub lent : (from count : ℕ) (left : List ℤ) → take (from + count - from) (drop from left) ≡ take count (drop from left)
-lent from count left = let e : from + count - from ≡ count = omega arith in rw e
+pub lent-part : (from count : ℕ) (left : List ℤ) → take (from + count - from) (drop from left) ≡ take count (drop from left)
+lent-part from count left = let e : from + count - from ≡ count = omega arith in rw e
 
 module _ (b : List ℤ) (names out m : List ℕ) (q : Request) (r : RequestAnswer) (left shown : List ℤ) (n : ℕ) where
-  pub answered : 2048 ≤ length out → Carried b names q r left → shown ≡ partOf (r .part) left
+  pub answered : 2048 ≤ length out → Carried (lent b names) q r (lent left names) → shown ≡ partOf (r .part) left
       → (n ≡ lengthIf (hasRoom out shown) (outcomeLine (r .outcome) (r .orders) shown)) × (m ≡ withLine (hasRoom out shown) (outcomeLine (r .outcome) (r .orders) shown) out)
-      → (n ≡ length (answerLine b names q)) × ((m ≡ answerLine b names q ++ drop (length (answerLine b names q)) out) × (left ≡ after b names q))
+      → (n ≡ length (answerLine (lent b names) q)) × ((m ≡ answerLine (lent b names) q ++ drop (length (answerLine (lent b names) q)) out) × (left ≡ after (lent b names) q .nums))
   answered h c e w =
       let few : length shown ≤ 75 = rw (e, c .shows) (shown-most b names q) in
       let t : hasRoom out shown ≡ true = room out shown h few in
-      let l : outcomeLine (r .outcome) (r .orders) shown ≡ answerLine b names q = ap (outcomeLine (r .outcome) (r .orders)) e ∙ line-told b names q r left c in
+      let l : outcomeLine (r .outcome) (r .orders) shown ≡ answerLine (lent b names) q = ap (outcomeLine (r .outcome) (r .orders)) e ∙ line-told b names q r left c in
       let v = rw (t, l) at w in
       (v .0, (v .1, c .leaves))
 
@@ -216,15 +216,15 @@ step-none line a f h e = without-form (readLine line) f (ap (λ (x : ReadAnswer)
 module _ (b : List ℤ) (names out m : List ℕ) (left : List ℤ) (n : ℕ) {s : Reading} where
   -- where the line was read
   pub told-read : (q : Request) → 2048 ≤ length out → s ≡ read q
-      → (n ≡ length (answerLine b names q)) × ((m ≡ answerLine b names q ++ drop (length (answerLine b names q)) out) × (left ≡ after b names q))
-      → (n ≡ lengthIf (roomy out) (printedFor b names s)) × ((m ≡ withLine (roomy out) (printedFor b names s) out) × (left ≡ cond (roomy out) (leftAfter b names s) b))
+      → (n ≡ length (answerLine (lent b names) q)) × ((m ≡ answerLine (lent b names) q ++ drop (length (answerLine (lent b names) q)) out) × (left ≡ after (lent b names) q .nums))
+      → (n ≡ lengthIf (roomy out) (printedFor (lent b names) s)) × ((m ≡ withLine (roomy out) (printedFor (lent b names) s) out) × (left ≡ cond (roomy out) (leftAfter (lent b names) s .nums) b))
   unfolding printedFor leftAfter
   told-read q h e w = rw (e, le-leb 2048 (length out) h) w
 
   -- where it has no form
   pub told-none : 2048 ≤ length out → s ≡ noForm → left ≡ b
       → (n ≡ lengthIf (hasRoom out []) noFormLine) × (m ≡ withLine (hasRoom out []) noFormLine out)
-      → (n ≡ lengthIf (roomy out) (printedFor b names s)) × ((m ≡ withLine (roomy out) (printedFor b names s) out) × (left ≡ cond (roomy out) (leftAfter b names s) b))
+      → (n ≡ lengthIf (roomy out) (printedFor (lent b names) s)) × ((m ≡ withLine (roomy out) (printedFor (lent b names) s) out) × (left ≡ cond (roomy out) (leftAfter (lent b names) s .nums) b))
   unfolding printedFor leftAfter
   told-none h e k w =
       let v = rw (room out [] h (omega arith)) at w in
@@ -232,7 +232,7 @@ module _ (b : List ℤ) (names out m : List ℕ) (left : List ℤ) (n : ℕ) {s 
 
 -- where there is no room
 pub told-nothing : (b : List ℤ) (names out : List ℕ) (s : Reading) → length out < 2048
-    → (0 ≡ lengthIf (roomy out) (printedFor b names s)) × ((out ≡ withLine (roomy out) (printedFor b names s) out) × (b ≡ cond (roomy out) (leftAfter b names s) b))
+    → (0 ≡ lengthIf (roomy out) (printedFor (lent b names) s)) × ((out ≡ withLine (roomy out) (printedFor (lent b names) s) out) × (b ≡ cond (roomy out) (leftAfter (lent b names) s .nums) b))
 told-nothing b names out s h = rw (lt-leb 2048 (length out) h) (refl, (refl, refl))
 
 -- what was written is a part of the buffer

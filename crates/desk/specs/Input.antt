@@ -6,6 +6,7 @@ use Prim.Native.Nat.{ℕ}
 use lib.Dec.{ltb, eqb}
 use lib.IntN.{ℤ}
 use lib.ListN.{length}
+use Rattle.model.specs.Request.{lent}
 use Rattle.model.specs.RequestLine.{readLine}
 use Rattle.model.specs.AnswerLine.{leftAfter}
 
@@ -16,7 +17,7 @@ kept p x = cond (ltb (length p) 1024) (p ++ (x ∷ [])) p
 -- the book after a block of input, given the line so far: each line that the block ends is carried out
 unfoldable pub bookAfter : List ℤ → List ℕ → List ℕ → List ℕ → List ℤ
 bookAfter b names p [] = b
-bookAfter b names p (x ∷ xs) = cond (eqb x 10) (bookAfter (leftAfter b names (readLine (kept p x))) names [] xs) (bookAfter b names (kept p x) xs)
+bookAfter b names p (x ∷ xs) = cond (eqb x 10) (bookAfter (leftAfter (lent b names) (readLine (kept p x)) .nums) names [] xs) (bookAfter b names (kept p x) xs)
 
 -- the line so far after a block
 unfoldable pub lineAfter : List ℕ → List ℕ → List ℕ

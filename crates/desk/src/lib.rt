@@ -7,7 +7,7 @@ ghost use lib.Dec.{eqb};
 ghost use lib.IntN.{pos};
 ghost use lib.ListN.{length, take, drop, replicate};
 ghost use Rattle.model.specs.RequestLine.{readLine};
-ghost use Rattle.model.specs.Request.{after};
+ghost use Rattle.model.specs.Request.{lent, after};
 ghost use Rattle.model.specs.AnswerLine.{answerLine, printedFor, leftAfter};
 ghost use Rattle.model.specs.Opening.{openingAnswer};
 ghost use Rattle.model.proofs.Listing.{programBook, programNames};
@@ -114,7 +114,7 @@ fn answer(
     out: &mut [u8],
 ) -> usize
     requires { ⌜ (2048 ≤ length (now out)) × Held lines name ⌝ }
-    ensures { λ r. ⌜ (r ≡ length (answerLine (now (b .entry)) (now (names .entry)) (requestIn form lines name))) × ((now (out .exit) ≡ answerLine (now (b .entry)) (now (names .entry)) (requestIn form lines name) ++ drop (length (answerLine (now (b .entry)) (now (names .entry)) (requestIn form lines name))) (now (out .entry))) × (now (b .exit) ≡ after (now (b .entry)) (now (names .entry)) (requestIn form lines name))) ⌝ }
+    ensures { λ r. ⌜ (r ≡ length (answerLine (lent (now (b .entry)) (now (names .entry))) (requestIn form lines name))) × ((now (out .exit) ≡ answerLine (lent (now (b .entry)) (now (names .entry))) (requestIn form lines name) ++ drop (length (answerLine (lent (now (b .entry)) (now (names .entry))) (requestIn form lines name))) (now (out .entry))) × (now (b .exit) ≡ after (lent (now (b .entry)) (now (names .entry))) (requestIn form lines name) .nums)) ⌝ }
 {
     let n = lines.count as usize;
     let m = name.length as usize;
@@ -141,7 +141,7 @@ fn answer(
 
 // One request line in, one answer out to a buffer of at least 2,048 bytes: its length, or 0 where there is no room and nothing is done.
 pub fn step(b: &mut [i64], names: &[u8], line: &[u8], out: &mut [u8]) -> usize
-    ensures { λ r. ⌜ (r ≡ lengthIf (roomy (now (out .entry))) (printedFor (now (b .entry)) (now (names .entry)) (readLine (now (line .entry))))) × ((now (out .exit) ≡ withLine (roomy (now (out .entry))) (printedFor (now (b .entry)) (now (names .entry)) (readLine (now (line .entry)))) (now (out .entry))) × (now (b .exit) ≡ cond (roomy (now (out .entry))) (leftAfter (now (b .entry)) (now (names .entry)) (readLine (now (line .entry)))) (now (b .entry)))) ⌝ }
+    ensures { λ r. ⌜ (r ≡ lengthIf (roomy (now (out .entry))) (printedFor (lent (now (b .entry)) (now (names .entry))) (readLine (now (line .entry))))) × ((now (out .exit) ≡ withLine (roomy (now (out .entry))) (printedFor (lent (now (b .entry)) (now (names .entry))) (readLine (now (line .entry)))) (now (out .entry))) × (now (b .exit) ≡ cond (roomy (now (out .entry))) (leftAfter (lent (now (b .entry)) (now (names .entry))) (readLine (now (line .entry))) .nums) (now (b .entry)))) ⌝ }
 {
     if out.len() < 2048 {
         return 0;
@@ -166,7 +166,7 @@ struct Fed {
 
 // One line answered; false where the output is closed.
 fn reply(b: &mut [i64], names: &[u8], line: &[u8]) -> bool
-    ensures { λ _. ⌜ now (b .exit) ≡ leftAfter (now (b .entry)) (now (names .entry)) (readLine (now (line .entry))) ⌝ }
+    ensures { λ _. ⌜ now (b .exit) ≡ leftAfter (lent (now (b .entry)) (now (names .entry))) (readLine (now (line .entry))) .nums ⌝ }
 {
     let mut out = [0u8; 2048];
     let n = step(b, names, line, &mut out);
@@ -188,7 +188,7 @@ fn keep(line: &mut [u8], n: usize, x: u8) -> usize
 // After a byte: the line is answered where the byte ends it.
 fn end_line(b: &mut [i64], names: &[u8], line: &[u8], n: usize, x: u8) -> Fed
     requires { ⌜ n ≤ length (now line) ⌝ }
-    ensures { λ r. ⌜ (r .len ≡ cond (eqb x 10) 0 n) × (now (b .exit) ≡ cond (eqb x 10) (leftAfter (now (b .entry)) (now (names .entry)) (readLine (take n (now (line .entry))))) (now (b .entry))) ⌝ }
+    ensures { λ r. ⌜ (r .len ≡ cond (eqb x 10) 0 n) × (now (b .exit) ≡ cond (eqb x 10) (leftAfter (lent (now (b .entry)) (now (names .entry))) (readLine (take n (now (line .entry)))) .nums) (now (b .entry))) ⌝ }
 {
     if x == 10 {
         let open = reply(b, names, &line[0..n]);

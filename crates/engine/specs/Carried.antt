@@ -1,15 +1,13 @@
--- A request carried out as the model says: its answer, what stands beside it, and the book that it leaves.
+-- A request carried out as the model says: its answer, what stands beside it, and what it leaves of all that is lent.
 -- Assumes nothing.
 use mathlib.Core.Path.{_≡_}
-use mathlib.Core.List.{List}
 use Prim.Native.Nat.{ℕ, _+_, _≤_}
-use lib.IntN.{ℤ}
 use lib.ListN.{length}
 use Rattle.model.specs.declared.RequestAnswer.{RequestAnswer}
 use Rattle.model.specs.declared.RequestOutcome.{RequestOutcome}
 use Rattle.model.specs.declared.RequestOutcome.the-variants as RequestCase
 use Rattle.model.specs.Answer.{requestSays}
-use Rattle.model.specs.Request.{Request, answerOf, ordersOf, shownOf, partOf, after}
+use Rattle.model.specs.Request.{Request, Lent, answerOf, ordersOf, shownOf, partOf, after}
 use Rattle.model.specs.RequestLine.{letter}
 
 -- the letter of the requests that an outcome answers
@@ -20,11 +18,11 @@ lettered (RequestCase.Delivery o) = 68
 lettered (RequestCase.OrderStatus o) = 83
 lettered (RequestCase.StockLevel o) = 76
 
--- of the book and names before, the request, the answer, and the book left; the shown part lies in the book left
-pub record Carried (b : List ℤ) (names : List ℕ) (q : Request) (r : RequestAnswer) (left : List ℤ) : Type 0 where
+-- of what is lent before, the request, the answer, and what is lent after; the shown part lies in the book left
+pub record Carried (s : Lent) (q : Request) (r : RequestAnswer) (left : Lent) : Type 0 where
   pub kind : lettered (r .outcome) ≡ letter q
-  pub says : requestSays (r .outcome) ≡ answerOf b names q
-  pub orders : r .orders ≡ ordersOf b names q
-  pub within : r .part .from + r .part .count ≤ length left
-  pub shows : partOf (r .part) left ≡ shownOf b names q
-  pub leaves : left ≡ after b names q
+  pub says : requestSays (r .outcome) ≡ answerOf s q
+  pub orders : r .orders ≡ ordersOf s q
+  pub within : r .part .from + r .part .count ≤ length (left .nums)
+  pub shows : partOf (r .part) (left .nums) ≡ shownOf s q
+  pub leaves : left .nums ≡ after s q .nums

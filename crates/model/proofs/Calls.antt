@@ -23,7 +23,7 @@ use Rattle.model.specs.Names.{Who, customerOf, foundNumber}
 use Rattle.model.specs.NewOrder.{newOrderFault, priceOf, takeLines, joinOps, newOrderCommit, newOrderBook}
 use Rattle.model.specs.Payment.{paymentFault, payer, payOps, paymentCommit, paymentBook}
 use Rattle.model.specs.Delivery.{deliveryFault, deliveryCommit, deliveryBook}
-use Rattle.model.specs.Request.{Request, newOrder, payment, delivery, orderStatus, stockLevel, faultOf, after}
+use Rattle.model.specs.Request.{Request, newOrder, payment, delivery, orderStatus, stockLevel, lent, faultOf, numsAfter}
 use Rattle.model.specs.Tally.{Opened, Tally, Order, N, worth, tallyPayment, tallyLines, tallyOrder, tallyDistricts, count, tally, afterAll, doneAll}
 use Rattle.model.specs.Claim.{R}
 use Rattle.model.proofs.NumberLaws.{nat-pos}
@@ -159,17 +159,17 @@ module _ (D : Dims) (b₀ : List ℤ) (names : List ℕ) (t : Tally) (b : List �
   idle true = g
   idle false = g
 
-  pub call-step : (r : Request) → Good D b₀ (cond (eqb (faultOf b names r .number) 0) (count (openedAt D b₀ names) r t) t) (after b names r)
-  unfolding faultOf after count payer
+  pub call-step : (r : Request) → Good D b₀ (cond (eqb (faultOf (lent b names) r .number) 0) (count (openedAt D b₀ names) r t) t) (numsAfter (lent b names) r)
+  unfolding faultOf numsAfter count payer
   call-step (newOrder q ls) = new-any q ls
   call-step (payment q who) = pay-any q who
   call-step (delivery q) = deliver-any q
-  call-step (orderStatus q who) = idle (eqb (faultOf b names (orderStatus q who) .number) 0)
-  call-step (stockLevel q) = idle (eqb (faultOf b names (stockLevel q) .number) 0)
+  call-step (orderStatus q who) = idle (eqb (faultOf (lent b names) (orderStatus q who) .number) 0)
+  call-step (stockLevel q) = idle (eqb (faultOf (lent b names) (stockLevel q) .number) 0)
 
 -- ── any list ──
 pub list-step : (D : Dims) (b₀ : List ℤ) (names : List ℕ) (rs : List Request) (t : Tally) (b : List ℤ) → Good D b₀ t b
-    → Good D b₀ (tally (openedAt D b₀ names) (doneAll b names rs) t) (afterAll b names rs)
+    → Good D b₀ (tally (openedAt D b₀ names) (doneAll (lent b names) rs) t) (afterAll (lent b names) rs .nums)
 list-step D b₀ names [] t b g = g
 list-step D b₀ names (r ∷ rs) t b g =
-    list-step D b₀ names rs (cond (eqb (faultOf b names r .number) 0) (count (openedAt D b₀ names) r t) t) (after b names r) (call-step D b₀ names t b g r)
+    list-step D b₀ names rs (cond (eqb (faultOf (lent b names) r .number) 0) (count (openedAt D b₀ names) r t) t) (numsAfter (lent b names) r) (call-step D b₀ names t b g r)

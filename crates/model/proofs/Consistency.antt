@@ -21,7 +21,7 @@ use Rattle.model.specs.Head.{dims}
 use Rattle.model.specs.Lists.{largest}
 use Rattle.model.specs.Delivery.{waits, oldest}
 use Rattle.model.specs.Opening.{openingFault}
-use Rattle.model.specs.Request.{Request}
+use Rattle.model.specs.Request.{Request, Lent}
 use Rattle.model.specs.Tally.{Tally, Order, Paid, N, M, is2, is3, sums, charged, start, openedOf, tally, doneAll, afterAll}
 use Rattle.model.specs.Claim.{R, noPaid}
 use Rattle.model.proofs.ListLaws.{largest-here}
@@ -394,5 +394,6 @@ module _ (D : Dims) (b₀ : List ℤ) (t : Tally) (b : List ℤ) (g : Good D b�
   }
 
 -- after any list of calls from a book that opening accepts
-pub consistent : (b : List ℤ) (names : List ℕ) → openingFault b names .number ≡ 0 → (rs : List Request) → Consistent (dims b) (afterAll b names rs)
-consistent b names e rs = good-consistent (dims b) b (tally (openedOf b names) (doneAll b names rs) start) (afterAll b names rs) (history-good b names e rs)
+pub consistent : (s : Lent) → openingFault (s .nums) (s .names) .number ≡ 0 → (rs : List Request) → Consistent (dims (s .nums)) (afterAll s rs .nums)
+consistent s e rs =
+    good-consistent (dims (s .nums)) (s .nums) (tally (openedOf (s .nums) (s .names)) (doneAll s rs) start) (afterAll s rs .nums) (history-good s e rs)

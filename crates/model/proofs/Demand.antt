@@ -14,7 +14,7 @@ use Rattle.model.specs.Store.{get}
 use Rattle.model.specs.Rows.{waiting}
 use Rattle.model.specs.Head.{dims}
 use Rattle.model.specs.Opening.{openingFault}
-use Rattle.model.specs.Request.{Request}
+use Rattle.model.specs.Request.{Request, Lent}
 use Rattle.model.specs.Tally.{Tally, N, M, charged, start, tally, openedOf, doneAll, afterAll}
 use Rattle.model.specs.Claim.{R, HistoryIs, noPaid, Claim, Demand}
 use Rattle.model.proofs.Parts.{Agrees, bal-back}
@@ -62,16 +62,18 @@ agrees-claim D b₀ t b ag = record {
         })
 
 -- the book and the tally after any list
-pub history-good : (b : List ℤ) (names : List ℕ) → openingFault b names .number ≡ 0 → (rs : List Request)
-    → Good (dims b) b (tally (openedOf b names) (doneAll b names rs) start) (afterAll b names rs)
+pub history-good : (s : Lent) → openingFault (s .nums) (s .names) .number ≡ 0 → (rs : List Request)
+    → Good (dims (s .nums)) (s .nums) (tally (openedOf (s .nums) (s .names)) (doneAll s rs) start) (afterAll s rs .nums)
 unfolding openedOf
-history-good b names e rs =
-    let fr = opened-fresh b names e in
-    list-step (dims b) b names rs start b (record { agrees = fresh-agrees (dims b) b names fr; sane = start-sane (dims b); booked = start-booked })
+history-good s e rs =
+    let b = s .nums in
+    let fr = opened-fresh b (s .names) e in
+    list-step (dims b) b (s .names) rs start b (record { agrees = fresh-agrees (dims b) b (s .names) fr; sane = start-sane (dims b); booked = start-booked })
 
 pub demand : Demand
-demand b names e rs =
-    let fr = opened-fresh b names e in (
-      agrees-claim (dims b) b (tally (openedOf b names) (doneAll b names rs) start) (afterAll b names rs) (history-good b names e rs .agrees),
-      never-list (dims b) b names fr rs start b (record { agrees = fresh-agrees (dims b) b names fr; sane = start-sane (dims b); booked = start-booked }),
+demand s e rs =
+    let b = s .nums in
+    let fr = opened-fresh b (s .names) e in (
+      agrees-claim (dims b) b (tally (openedOf b (s .names)) (doneAll s rs) start) (afterAll s rs .nums) (history-good s e rs .agrees),
+      never-list (dims b) b (s .names) fr rs start b (record { agrees = fresh-agrees (dims b) b (s .names) fr; sane = start-sane (dims b); booked = start-booked }),
     )

@@ -25,7 +25,7 @@ use Rattle.model.specs.Payment.{payAsked, payUsed, paymentFault, payer, 
 use Rattle.model.specs.Delivery.{deliveryAsked, deliverable, deliveryUsed, deliveryFault, waits, oldest, lineAmounts, deliverOrder, deliverDistrict, deliverTo, deliveryCommit, oldestTen, deliveryAnswer, deliveryOrders, deliveryBook}
 use Rattle.model.specs.OrderStatus.{statusAsked, statusUsed, statusFault, lastOrder, statusCustomer, statusOrder, orderShown, linesShown, statusAnswer, statusLines}
 use Rattle.model.specs.StockLevel.{windowFirst, windowCount, levelAsked, windowUsed, levelUsed, stockLevelFault, lineItems, windowItems, isLow, lowItems, stockLevelAnswer}
-use Rattle.model.specs.Request.{answerOf, ordersOf, shownOf, after}
+use Rattle.model.specs.Request.{Lent, lent, answerOf, ordersOf, shownOf, numsAfter}
 use Rattle.model.specs.RequestLine.{isNumber, valueOf, isName, isWho, whoRead, parted, linesRead, readNewOrder, readPayment, readDelivery, readOrderStatus, readStockLevel, readFields, readLine}
 use Rattle.model.specs.AnswerLine.{decimals, signed, textOf, answerLine, noFormLine, printedFor, leftAfter}
 
@@ -60,9 +60,9 @@ abbrev lines : List String → List (List ℕ)
 lines [] = []
 lines (s ∷ ss) = (bytes s ++ (10 ∷ [])) ∷ lines ss
 
-abbrev answered : List ℤ → List (List ℕ) → List (List ℕ)
-answered b [] = []
-answered b (s ∷ ss) = printedFor b programNames (readLine s) ∷ answered (leftAfter b programNames (readLine s)) ss
+abbrev answered : Lent → List (List ℕ) → List (List ℕ)
+answered s [] = []
+answered s (x ∷ xs) = printedFor s (readLine x) ∷ answered (leftAfter s (readLine x)) xs
 
 pub lengths : (length programBook ∷ length programNames ∷ []) ≡ 3479 ∷ 640 ∷ []
 lengths = refl
@@ -72,7 +72,7 @@ unfolding openingFault headOk dims cell nat dimsTests sizeTests numbers nameByte
 accepted = refl
 
 -- the listing of document 01
-pub listing : answered programBook (lines (
+pub listing : answered (lent programBook programNames) (lines (
     "N 1 1 1 100 1 1 10 2 1 3" ∷
     "N 1 1 1 101 1 1 1 4 1 1" ∷
     "N 1 1 2 102 1 1 1" ∷
@@ -88,5 +88,5 @@ pub listing : answered programBook (lines (
     "P 0 2 -500" ∷
     "S 0 1 1750 1 100 3 1 1 10 1000 200 2 1 3 750 200" ∷
     "L 0 1" ∷ [])
-unfolding allTo nat cell balanceOk numbers nameBytes inside place get remap op upTo sumOf lowest largest warehouseTests districtTests customerTests itemTests stockTests slot orderTests lineTests orderOk dims dimsTests sizeTests headOk namePlace lastName firstName nameOk padded compareNames named before namesakes found customerOf warehouseUsed districtUsed customerUsed itemUsed stockUsed orderUsed customersUsed namesUsed ordersUsed whoUsed lineUsed newAsked priceOf orderable newUsed newOrderFault restock newOrderCommit orderTotal newOrderTotal newOrderAnswer newOrderBook payAsked payUsed paymentFault payer paymentCommit paidBalance paymentAnswer paymentBook deliveryAsked deliverable deliveryUsed deliveryFault waits oldest lineAmounts deliverOrder deliverDistrict deliverTo deliveryCommit oldestTen deliveryAnswer deliveryBook statusAsked statusUsed statusFault lastOrder statusCustomer statusOrder orderShown linesShown statusAnswer statusLines windowFirst windowCount levelAsked windowUsed levelUsed stockLevelFault lineItems windowItems isLow lowItems stockLevelAnswer answerOf after deliveryOrders ones ordersOf shownOf decimals signed textOf answerLine noFormLine printedFor leftAfter isNumber valueOf isName isWho whoRead parted linesRead readNewOrder readPayment readDelivery readOrderStatus readStockLevel readFields readLine
+unfolding allTo nat cell balanceOk numbers nameBytes inside place get remap op upTo sumOf lowest largest warehouseTests districtTests customerTests itemTests stockTests slot orderTests lineTests orderOk dims dimsTests sizeTests headOk namePlace lastName firstName nameOk padded compareNames named before namesakes found customerOf warehouseUsed districtUsed customerUsed itemUsed stockUsed orderUsed customersUsed namesUsed ordersUsed whoUsed lineUsed newAsked priceOf orderable newUsed newOrderFault restock newOrderCommit orderTotal newOrderTotal newOrderAnswer newOrderBook payAsked payUsed paymentFault payer paymentCommit paidBalance paymentAnswer paymentBook deliveryAsked deliverable deliveryUsed deliveryFault waits oldest lineAmounts deliverOrder deliverDistrict deliverTo deliveryCommit oldestTen deliveryAnswer deliveryBook statusAsked statusUsed statusFault lastOrder statusCustomer statusOrder orderShown linesShown statusAnswer statusLines windowFirst windowCount levelAsked windowUsed levelUsed stockLevelFault lineItems windowItems isLow lowItems stockLevelAnswer answerOf numsAfter deliveryOrders ones ordersOf shownOf decimals signed textOf answerLine noFormLine printedFor leftAfter isNumber valueOf isName isWho whoRead parted linesRead readNewOrder readPayment readDelivery readOrderStatus readStockLevel readFields readLine
 listing = refl

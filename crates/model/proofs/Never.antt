@@ -31,7 +31,7 @@ use Rattle.model.specs.Payment.{payAsked, payUsed, paymentFault}
 use Rattle.model.specs.Delivery.{deliveryAsked, deliverable, deliveryUsed, deliveryFault}
 use Rattle.model.specs.OrderStatus.{statusAsked, statusUsed, statusFault}
 use Rattle.model.specs.StockLevel.{levelAsked, levelUsed, stockLevelFault}
-use Rattle.model.specs.Request.{Request, newOrder, payment, delivery, orderStatus, stockLevel, faultOf, after}
+use Rattle.model.specs.Request.{Request, newOrder, payment, delivery, orderStatus, stockLevel, lent, faultOf, numsAfter}
 use Rattle.model.specs.Tally.{Tally, N, M, charged, count, doneAll}
 use Rattle.model.specs.Claim.{R, Never}
 use Rattle.model.proofs.TestLaws.{every-each, each-every, and-left, and-right, all-to, PassAt, Need, not-answered}
@@ -383,7 +383,7 @@ module _ (D : Dims) (b₀ : List ℤ) (names : List ℕ) (fr : Fresh D b₀ name
   sized : (f : Dims → List Check) → Not239 (fault (chk (headOk b (length names)) 2 ∷ f D) .number) → Not239 (fault (chk (headOk b (length names)) 2 ∷ f (dims b)) .number)
   sized f h = subst (λ (d : Dims). Not239 (fault (chk (headOk b (length names)) 2 ∷ f d) .number)) (sym (g .agrees .head .head)) h
 
-  pub never-call : (r : Request) → (faultOf b names r .number ≢ 2) × ((faultOf b names r .number ≢ 3) × (faultOf b names r .number ≢ 9))
+  pub never-call : (r : Request) → (faultOf (lent b names) r .number ≢ 2) × ((faultOf (lent b names) r .number ≢ 3) × (faultOf (lent b names) r .number ≢ 9))
   unfolding faultOf newOrderFault paymentFault deliveryFault statusFault stockLevelFault newAsked newUsed payAsked payUsed deliveryAsked deliveryUsed statusAsked statusUsed levelAsked levelUsed
   never-call (newOrder q ls) = sized (λ d. newAsked d q ls ++ newUsed d b q ls) (all-three (newAsked D q ls ++ newUsed D b q ls) refl refl (new-9 q ls))
   never-call (payment q who) = sized (λ d. payAsked d q who ++ payUsed d b names q who) (all-three (payAsked D q who ++ payUsed D b names q who) refl refl (pay-9 q who))
@@ -391,8 +391,8 @@ module _ (D : Dims) (b₀ : List ℤ) (names : List ℕ) (fr : Fresh D b₀ name
   never-call (orderStatus q who) = sized (λ d. statusAsked d q who ++ statusUsed d b names q who) (all-three (statusAsked D q who ++ statusUsed D b names q who) refl refl (status-9 q who))
   never-call (stockLevel q) = sized (λ d. levelAsked d q ++ levelUsed d b q) (all-three (levelAsked D q ++ levelUsed D b q) refl refl (level-9 q))
 
-pub never-list : (D : Dims) (b₀ : List ℤ) (names : List ℕ) → Fresh D b₀ names → (rs : List Request) (t : Tally) (b : List ℤ) → Good D b₀ t b → Never (doneAll b names rs)
+pub never-list : (D : Dims) (b₀ : List ℤ) (names : List ℕ) → Fresh D b₀ names → (rs : List Request) (t : Tally) (b : List ℤ) → Good D b₀ t b → Never (doneAll (lent b names) rs)
 never-list D b₀ names fr [] t b g = tt
 never-list D b₀ names fr (r ∷ rs) t b g =
     let n = never-call D b₀ names fr t b g r in
-    (n .0, (n .1 .0, (n .1 .1, never-list D b₀ names fr rs (cond (eqb (faultOf b names r .number) 0) (count (openedAt D b₀ names) r t) t) (after b names r) (call-step D b₀ names t b g r))))
+    (n .0, (n .1 .0, (n .1 .1, never-list D b₀ names fr rs (cond (eqb (faultOf (lent b names) r .number) 0) (count (openedAt D b₀ names) r t) t) (numsAfter (lent b names) r) (call-step D b₀ names t b g r))))

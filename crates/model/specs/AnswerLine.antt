@@ -6,7 +6,7 @@ use Prim.Native.Nat.{ℕ, suc}
 use lib.IntN.{ℤ, pos, negsuc}
 use lib.ListN.{take}
 use Rattle.model.specs.Answer.{Answer, committed, refused}
-use Rattle.model.specs.Request.{Request, newOrder, payment, delivery, orderStatus, stockLevel, answerOf, ordersOf, shownOf, after}
+use Rattle.model.specs.Request.{Request, newOrder, payment, delivery, orderStatus, stockLevel, Lent, answerOf, ordersOf, shownOf, after}
 use Rattle.model.specs.RequestLine.{digits, letter, tabbed, Reading, read, noForm, refused1}
 
 -- "a minus before a negative number"; the largest of 64 bits has twenty digits
@@ -42,18 +42,18 @@ told r (refused f) orders shown = pos (f .number) ∷ pos (f .detail) ∷ []
 unfoldable pub textOf : ℕ → List ℤ → List ℕ
 textOf x zs = x ∷ tabbed (signeds zs) ++ (10 ∷ [])
 
-unfoldable pub answerLine : List ℤ → List ℕ → Request → List ℕ
-answerLine b names r = textOf (letter r) (told r (answerOf b names r) (ordersOf b names r) (shownOf b names r))
+unfoldable pub answerLine : Lent → Request → List ℕ
+answerLine s r = textOf (letter r) (told r (answerOf s r) (ordersOf s r) (shownOf s r))
 
 -- "A line refused by 1 prints ?, 1, 0."
 unfoldable pub noFormLine : List ℕ
 noFormLine = textOf 63 (pos (refused1 .number) ∷ pos (refused1 .detail) ∷ [])
 
--- what a line of input prints, and the book that it leaves
-unfoldable pub printedFor : List ℤ → List ℕ → Reading → List ℕ
-printedFor b names (read r) = answerLine b names r
-printedFor b names noForm = noFormLine
+-- what a line of input prints, and what it leaves
+unfoldable pub printedFor : Lent → Reading → List ℕ
+printedFor s (read r) = answerLine s r
+printedFor s noForm = noFormLine
 
-unfoldable pub leftAfter : List ℤ → List ℕ → Reading → List ℤ
-leftAfter b names (read r) = after b names r
-leftAfter b names noForm = b
+unfoldable pub leftAfter : Lent → Reading → Lent
+leftAfter s (read r) = after s r
+leftAfter s noForm = s

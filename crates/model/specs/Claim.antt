@@ -14,7 +14,7 @@ use Rattle.model.specs.Store.{get, num}
 use Rattle.model.specs.Rows.{historyCount, warehouseYtd, districtYtd, nextOrder, balance, ytdPayment, onHand, stockYtd, waiting, historyCol}
 use Rattle.model.specs.Head.{dims}
 use Rattle.model.specs.Opening.{openingFault}
-use Rattle.model.specs.Request.{Request}
+use Rattle.model.specs.Request.{Request, Lent}
 use Rattle.model.specs.Tally.{Tally, Done, Paid, N, M, charged, openedOf, start, tally, afterAll, doneAll}
 
 -- x is one of 1, .., n
@@ -76,5 +76,5 @@ Never (x ∷ xs) = (x .number ≢ 2) × ((x .number ≢ 3) × ((x .number ≢ 9)
 -- "Take any list of the five calls .., refused ones included, from a book that opening has just accepted."
 abbrev pub Demand : Type 0
 Demand =
-    (b : List ℤ) (names : List ℕ) → openingFault b names .number ≡ 0 → (rs : List Request)
-    → Claim (dims b) b (tally (openedOf b names) (doneAll b names rs) start) (afterAll b names rs) × Never (doneAll b names rs)
+    (s : Lent) → openingFault (s .nums) (s .names) .number ≡ 0 → (rs : List Request)
+    → Claim (dims (s .nums)) (s .nums) (tally (openedOf (s .nums) (s .names)) (doneAll s rs) start) (afterAll s rs .nums) × Never (doneAll s rs)

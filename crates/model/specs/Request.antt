@@ -58,44 +58,58 @@ linesIn l = upTo (l .count) (λ j. record { item = getD (l .items) (j - 1) 0; su
 abbrev pub nameIn : LastName → List ℕ
 nameIn n = take (n .length) (n .bytes)
 
--- the first refusal that fits a request on a book with its names; number 0 where it is committed
-unfoldable pub faultOf : List ℤ → List ℕ → Request → Refusal
-faultOf b names (newOrder q lines) = newOrderFault b names q lines
-faultOf b names (payment q who) = paymentFault b names q who
-faultOf b names (delivery q) = deliveryFault b names q
-faultOf b names (orderStatus q who) = statusFault b names q who
-faultOf b names (stockLevel q) = stockLevelFault b names q
+-- what is lent through a list of calls
+pub record Lent : Type 0 where
+  -- the book's numbers
+  pub nums : List ℤ
+  -- name bytes, lent to be read only
+  pub names : List ℕ
 
-unfoldable pub answerOf : List ℤ → List ℕ → Request → Answer
-answerOf b names (newOrder q lines) = newOrderAnswer b names q lines
-answerOf b names (payment q who) = paymentAnswer b names q who
-answerOf b names (delivery q) = deliveryAnswer b names q
-answerOf b names (orderStatus q who) = statusAnswer b names q who
-answerOf b names (stockLevel q) = stockLevelAnswer b names q
+abbrev pub lent : List ℤ → List ℕ → Lent
+lent b names = record { nums = b; names = names }
+
+-- the first refusal that fits a request on what is lent; number 0 where it is committed
+unfoldable pub faultOf : Lent → Request → Refusal
+faultOf s (newOrder q lines) = newOrderFault (s .nums) (s .names) q lines
+faultOf s (payment q who) = paymentFault (s .nums) (s .names) q who
+faultOf s (delivery q) = deliveryFault (s .nums) (s .names) q
+faultOf s (orderStatus q who) = statusFault (s .nums) (s .names) q who
+faultOf s (stockLevel q) = stockLevelFault (s .nums) (s .names) q
+
+unfoldable pub answerOf : Lent → Request → Answer
+answerOf s (newOrder q lines) = newOrderAnswer (s .nums) (s .names) q lines
+answerOf s (payment q who) = paymentAnswer (s .nums) (s .names) q who
+answerOf s (delivery q) = deliveryAnswer (s .nums) (s .names) q
+answerOf s (orderStatus q who) = statusAnswer (s .nums) (s .names) q who
+answerOf s (stockLevel q) = stockLevelAnswer (s .nums) (s .names) q
 
 -- beside the answer: Delivery's ten numbers, and the lines that a status shows
-unfoldable pub ordersOf : List ℤ → List ℕ → Request → List ℕ
-ordersOf b names (newOrder q lines) = replicate 10 0
-ordersOf b names (payment q who) = replicate 10 0
-ordersOf b names (delivery q) = deliveryOrders b names q
-ordersOf b names (orderStatus q who) = replicate 10 0
-ordersOf b names (stockLevel q) = replicate 10 0
+unfoldable pub ordersOf : Lent → Request → List ℕ
+ordersOf s (newOrder q lines) = replicate 10 0
+ordersOf s (payment q who) = replicate 10 0
+ordersOf s (delivery q) = deliveryOrders (s .nums) (s .names) q
+ordersOf s (orderStatus q who) = replicate 10 0
+ordersOf s (stockLevel q) = replicate 10 0
 
-unfoldable pub shownOf : List ℤ → List ℕ → Request → List ℤ
-shownOf b names (newOrder q lines) = []
-shownOf b names (payment q who) = []
-shownOf b names (delivery q) = []
-shownOf b names (orderStatus q who) = statusLines b names q who
-shownOf b names (stockLevel q) = []
+unfoldable pub shownOf : Lent → Request → List ℤ
+shownOf s (newOrder q lines) = []
+shownOf s (payment q who) = []
+shownOf s (delivery q) = []
+shownOf s (orderStatus q who) = statusLines (s .nums) (s .names) q who
+shownOf s (stockLevel q) = []
 
 -- the part of a book that two numbers name
 abbrev pub partOf : Part → List ℤ → List ℤ
 partOf p b = take (p .count) (drop (p .from) b)
 
--- the numbers as the call leaves them; the names are lent to be read only
-unfoldable pub after : List ℤ → List ℕ → Request → List ℤ
-after b names (newOrder q lines) = newOrderBook b names q lines
-after b names (payment q who) = paymentBook b names q who
-after b names (delivery q) = deliveryBook b names q
-after b names (orderStatus q who) = b
-after b names (stockLevel q) = b
+-- the book's numbers as a call leaves them
+unfoldable pub numsAfter : Lent → Request → List ℤ
+numsAfter s (newOrder q lines) = newOrderBook (s .nums) (s .names) q lines
+numsAfter s (payment q who) = paymentBook (s .nums) (s .names) q who
+numsAfter s (delivery q) = deliveryBook (s .nums) (s .names) q
+numsAfter s (orderStatus q who) = s .nums
+numsAfter s (stockLevel q) = s .nums
+
+-- all that is lent as a call leaves it; the names are only read
+abbrev pub after : Lent → Request → Lent
+after s r = record { nums = numsAfter s r; names = s .names }

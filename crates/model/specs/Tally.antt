@@ -14,7 +14,7 @@ use Rattle.model.specs.Store.{num}
 use Rattle.model.specs.Rows.{price}
 use Rattle.model.specs.Head.{dims}
 use Rattle.model.specs.Names.{Who, customerOf, foundNumber}
-use Rattle.model.specs.Request.{Request, newOrder, payment, delivery, orderStatus, stockLevel, faultOf, after}
+use Rattle.model.specs.Request.{Request, newOrder, payment, delivery, orderStatus, stockLevel, Lent, faultOf, after}
 
 -- "The tally reads the opening book's prices and names ..": this much of it, the names by whom a Payment's who picks among them
 pub record Opened : Type 0 where
@@ -166,10 +166,10 @@ abbrev pub charged : Tally → ℕ → ℕ → ℕ → ℕ
 charged t w k c = sums c (take (M t w k) (t .orders w k))
 
 -- "Take any list of the five calls below, refused ones included .. Each call gets both slices as the one before left them"
-abbrev pub afterAll : List ℤ → List ℕ → List Request → List ℤ
-afterAll b names [] = b
-afterAll b names (r ∷ rs) = afterAll (after b names r) names rs
+abbrev pub afterAll : Lent → List Request → Lent
+afterAll s [] = s
+afterAll s (r ∷ rs) = afterAll (after s r) rs
 
-abbrev pub doneAll : List ℤ → List ℕ → List Request → List Done
-doneAll b names [] = []
-doneAll b names (r ∷ rs) = record { request = r; number = faultOf b names r .number } ∷ doneAll (after b names r) names rs
+abbrev pub doneAll : Lent → List Request → List Done
+doneAll s [] = []
+doneAll s (r ∷ rs) = record { request = r; number = faultOf s r .number } ∷ doneAll (after s r) rs

@@ -1,7 +1,8 @@
 use Rattle.desk.proofs.Telling.{front}
 use Rattle.desk.specs.Step.{requestIn}
+use Rattle.model.specs.Request.{lent}
 use Rattle.engine.specs.Carried.{Carried}
-use Rattle.desk.proofs.Telling.{lent, answered}
+use Rattle.desk.proofs.Telling.{lent-part, answered}
 use borrow.Author.Needs.{needs}
 use Rattle.desk.proofs.answer.Statement.{statement}
 use Rattle.desk.proofs.answer.Tie as tie
@@ -97,7 +98,7 @@ same-length-2 c = search needs
 -- src/lib.rt:83:1
 returns : tie.Need-returns
 returns c =
-    let h : Carried (c .before .before .before .before .before .before .before .before .before .before .before .before .before .before .before .before .before .before .before .before .before .before .before .before .before .before .args .b .now) (c .before .before .before .before .before .before .before .before .before .before .before .before .before .before .before .before .before .before .before .before .before .before .before .before .before .before .args .names .now) (requestIn (c .before .before .before .before .before .before .before .before .before .before .before .before .before .before .before .before .before .before .before .before .before .before .before .before .before .before .args .form) (c .before .before .before .before .before .before .before .before .before .before .before .before .before .before .before .before .before .before .before .before .before .before .before .before .before .before .args .lines) (c .before .before .before .before .before .before .before .before .before .before .before .before .before .before .before .before .before .before .before .before .before .before .before .before .before .before .args .name)) (c .before .before .before .before .before .before .before .before .before .before .carry-out .result) (c .before .before .before .before .before .before .before .before .before .before .carry-out .last .0) = rw (front (c .before .before .before .before .before .before .before .before .before .before .before .before .before .before .before .before .before .before .before .before .before .before .before .before .before .before .args .lines .count), front (c .before .before .before .before .before .before .before .before .before .before .before .before .before .before .before .before .before .before .before .before .before .before .before .before .before .before .args .name .length)) at (c .before .before .before .before .before .before .before .before .before .before .carry-out .ensures) in answered _ _ _ _ _ _ _ _ _ (c .before .before .before .before .before .before .before .before .before .before .before .before .before .before .before .before .before .before .before .before .before .before .before .before .before .before .pre .0) h (lent (c .before .before .before .before .before .before .before .before .before .before .carry-out .result .part .from) (c .before .before .before .before .before .before .before .before .before .before .carry-out .result .part .count) (c .before .before .before .before .before .before .before .before .before .before .carry-out .last .0)) (c .before .before .write-answer .ensures)
+    let h : Carried (lent (c .before .before .before .before .before .before .before .before .before .before .before .before .before .before .before .before .before .before .before .before .before .before .before .before .before .before .args .b .now) (c .before .before .before .before .before .before .before .before .before .before .before .before .before .before .before .before .before .before .before .before .before .before .before .before .before .before .args .names .now)) (requestIn (c .before .before .before .before .before .before .before .before .before .before .before .before .before .before .before .before .before .before .before .before .before .before .before .before .before .before .args .form) (c .before .before .before .before .before .before .before .before .before .before .before .before .before .before .before .before .before .before .before .before .before .before .before .before .before .before .args .lines) (c .before .before .before .before .before .before .before .before .before .before .before .before .before .before .before .before .before .before .before .before .before .before .before .before .before .before .args .name)) (c .before .before .before .before .before .before .before .before .before .before .carry-out .result) (lent (c .before .before .before .before .before .before .before .before .before .before .carry-out .last .0) (c .before .before .before .before .before .before .before .before .before .before .before .before .before .before .before .before .before .before .before .before .before .before .before .before .before .before .args .names .now)) = rw (front (c .before .before .before .before .before .before .before .before .before .before .before .before .before .before .before .before .before .before .before .before .before .before .before .before .before .before .args .lines .count), front (c .before .before .before .before .before .before .before .before .before .before .before .before .before .before .before .before .before .before .before .before .before .before .before .before .before .before .args .name .length)) at (c .before .before .before .before .before .before .before .before .before .before .carry-out .ensures) in answered _ _ _ _ _ _ _ _ _ (c .before .before .before .before .before .before .before .before .before .before .before .before .before .before .before .before .before .before .before .before .before .before .before .before .before .before .pre .0) h (lent-part (c .before .before .before .before .before .before .before .before .before .before .carry-out .result .part .from) (c .before .before .before .before .before .before .before .before .before .before .carry-out .result .part .count) (c .before .before .before .before .before .before .before .before .before .before .carry-out .last .0)) (c .before .before .write-answer .ensures)
 
 pub answer-spec : {M : Type 1} → statement M
 answer-spec =

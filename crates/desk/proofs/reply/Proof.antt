@@ -1,4 +1,5 @@
 use lib.ListN.{replicate}
+use Rattle.model.specs.Request.{lent}
 use Rattle.model.specs.RequestLine.{readLine}
 use Rattle.model.specs.AnswerLine.{printedFor}
 use Rattle.desk.specs.Step.{roomy}
@@ -30,7 +31,7 @@ part-write-all-start c = search needs
 -- src/lib.rt:149:34
 part-write-all-end : tie.Need-part-write-all-end
 part-write-all-end c =
-    written-part (replicate 2048 0) _ (printedFor (c .before .before .before .before .before .before .before .before .args .b .now) (c .before .before .before .before .before .before .before .before .args .names .now) (readLine (c .before .before .before .before .before .before .before .before .args .line .now))) _ (roomy (replicate 2048 0)) (c .before .before .before .step .ensures .0) (c .before .before .before .step .ensures .1 .0)
+    written-part (replicate 2048 0) _ (printedFor (lent (c .before .before .before .before .before .before .before .before .args .b .now) (c .before .before .before .before .before .before .before .before .args .names .now)) (readLine (c .before .before .before .before .before .before .before .before .args .line .now))) _ (roomy (replicate 2048 0)) (c .before .before .before .step .ensures .0) (c .before .before .before .step .ensures .1 .0)
 
 -- src/lib.rt:149:5
 write-all-requires : tie.Need-write-all-requires

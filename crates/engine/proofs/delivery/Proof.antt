@@ -1,5 +1,5 @@
 use mathlib.Core.Path.{refl}
-use Rattle.model.specs.Request.{answerOf, ordersOf, shownOf, after}
+use Rattle.model.specs.Request.{answerOf, ordersOf, shownOf, numsAfter}
 use borrow.Author.Needs.{needs}
 use Rattle.engine.proofs.delivery.Statement.{statement}
 use Rattle.engine.proofs.delivery.Tie as tie
@@ -17,7 +17,7 @@ same-length c = search needs
 
 -- src/lib.rt:63:1
 returns : tie.Need-returns
-unfolding answerOf ordersOf shownOf after
+unfolding answerOf ordersOf shownOf numsAfter
 returns c =
     record { kind = refl; says = c .before .before .delivery .ensures .0; orders = c .before .before .delivery .ensures .1 .0; within = search needs; shows = refl; leaves = c .before .before .delivery .ensures .1 .1 }
 

@@ -1,5 +1,5 @@
 use mathlib.Core.Path.{refl}
-use Rattle.model.specs.Request.{answerOf, ordersOf, shownOf, after}
+use Rattle.model.specs.Request.{answerOf, ordersOf, shownOf, numsAfter}
 use borrow.Author.Needs.{needs}
 use Rattle.engine.proofs.order_status.Statement.{statement}
 use Rattle.engine.proofs.order_status.Tie as tie
@@ -13,7 +13,7 @@ status-shown-requires c κs = search needs
 
 -- src/lib.rt:79:1
 returns : tie.Need-returns
-unfolding answerOf ordersOf shownOf after
+unfolding answerOf ordersOf shownOf numsAfter
 returns c =
     record { kind = refl; says = c .before .status-shown .ensures .0; orders = refl; within = c .before .status-shown .ensures .1 .0; shows = c .before .status-shown .ensures .1 .1; leaves = refl }
 

@@ -1,5 +1,5 @@
 use mathlib.Core.Path.{refl}
-use Rattle.model.specs.Request.{answerOf, ordersOf, shownOf, after}
+use Rattle.model.specs.Request.{answerOf, ordersOf, shownOf, numsAfter}
 use borrow.Author.Needs.{needs}
 use Rattle.engine.proofs.stock_level.Statement.{statement}
 use Rattle.engine.proofs.stock_level.Tie as tie
@@ -13,7 +13,7 @@ stock-level-requires c κs = search needs
 
 -- src/lib.rt:100:1
 returns : tie.Need-returns
-unfolding answerOf ordersOf shownOf after
+unfolding answerOf ordersOf shownOf numsAfter
 returns c =
     record { kind = refl; says = c .stock-level .ensures; orders = refl; within = search needs; shows = refl; leaves = refl }
 
