@@ -12,6 +12,7 @@ pub mod MarkLaws
 pub mod DecimalLaws
 pub mod LineLaws
 pub mod Zipped
+pub mod PassLaws
 pub mod RowFacts
 pub mod Order
 pub mod Ordering
