@@ -1,18 +1,19 @@
 ghost use mathlib.Core.Path.{_≡_};
-ghost use Prim.Native.Nat.{_+_, _≤_};
+ghost use Prim.Native.Nat.{_+_, _≤_, _<_, _^_};
 ghost use lib.ListN.{length};
 ghost use Rattle.model.specs.Tests.{every};
-ghost use Rattle.model.specs.Layout.{numbers, nameBytes, shapes, place};
+ghost use Rattle.model.specs.Layout.{numbers, shapes, place};
 ghost use Rattle.model.specs.Head.{dims, dimsTests, sizeTests, headOk};
 ghost use Rattle.model.specs.Rows.{warehouseRow, districtRow, customerRow, price, stockRow, slot, orderRow, historyRow};
-ghost use Rattle.model.specs.Names.{namePlace};
 ghost use Rattle.model.specs.Claim.{R};
 ghost use Rattle.model.proofs.Fields.{Dimensioned};
 ghost use Rattle.layout.specs.Layout.{allCustomers, allStocks, allOrders, itemBase, stockBase, orderBase, historyBase};
+ghost use Rattle.layout.specs.Heads.{HeadSays};
+ghost use Rattle.layout.specs.Runs.{rowIn, RunOf, SectionRun};
 use model::Dims;
 
 // The five numbers that fix the size are in their ranges.
-pub fn dims_ok(d: Dims) -> bool
+fn dims_ok(d: Dims) -> bool
     ensures { λ r. ⌜ r ≡ every (dimsTests d) ⌝ }
 {
     (1 <= d.warehouses)
@@ -47,21 +48,21 @@ pub fn dims_of(b: &[i64]) -> Dims
 }
 
 // How many customers, stocks and orders the book has rows for.
-pub fn all_customers(d: Dims) -> u64
+fn all_customers(d: Dims) -> u64
     requires { ⌜ Dimensioned d ⌝ }
     ensures { λ r. ⌜ (r ≡ allCustomers d) × (r ≤ 600000) ⌝ }
 {
     10 * d.warehouses * d.customers
 }
 
-pub fn all_stocks(d: Dims) -> u64
+fn all_stocks(d: Dims) -> u64
     requires { ⌜ Dimensioned d ⌝ }
     ensures { λ r. ⌜ (r ≡ allStocks d) × (r ≤ 2000000) ⌝ }
 {
     d.warehouses * d.items
 }
 
-pub fn all_orders(d: Dims) -> u64
+fn all_orders(d: Dims) -> u64
     requires { ⌜ Dimensioned d ⌝ }
     ensures { λ r. ⌜ (r ≡ allOrders d) × (r ≤ 2000000) ⌝ }
 {
@@ -69,7 +70,7 @@ pub fn all_orders(d: Dims) -> u64
 }
 
 // Where the items, the stocks, the orders and the history start.
-pub fn item_base(d: Dims) -> u64
+fn item_base(d: Dims) -> u64
     requires { ⌜ Dimensioned d ⌝ }
     ensures { λ r. ⌜ (r ≡ itemBase d) × (r ≤ 3700000) ⌝ }
 {
@@ -77,14 +78,14 @@ pub fn item_base(d: Dims) -> u64
     6 + 2 * d.warehouses + 30 * d.warehouses + 6 * customers
 }
 
-pub fn stock_base(d: Dims) -> u64
+fn stock_base(d: Dims) -> u64
     requires { ⌜ Dimensioned d ⌝ }
     ensures { λ r. ⌜ (r ≡ stockBase d) × (r ≤ 3800000) ⌝ }
 {
     item_base(d) + d.items
 }
 
-pub fn order_base(d: Dims) -> u64
+fn order_base(d: Dims) -> u64
     requires { ⌜ Dimensioned d ⌝ }
     ensures { λ r. ⌜ (r ≡ orderBase d) × (r ≤ 11800000) ⌝ }
 {
@@ -92,7 +93,7 @@ pub fn order_base(d: Dims) -> u64
     stock_base(d) + 4 * stocks
 }
 
-pub fn history_base(d: Dims) -> u64
+fn history_base(d: Dims) -> u64
     requires { ⌜ Dimensioned d ⌝ }
     ensures { λ r. ⌜ (r ≡ historyBase d) × (r ≤ 200000000) ⌝ }
 {
@@ -101,7 +102,7 @@ pub fn history_base(d: Dims) -> u64
 }
 
 // How many numbers the book has.
-pub fn numbers_of(d: Dims) -> u64
+fn numbers_of(d: Dims) -> u64
     requires { ⌜ Dimensioned d ⌝ }
     ensures { λ r. ⌜ (r ≡ numbers d) × (r ≤ 207000000) ⌝ }
 {
@@ -109,7 +110,7 @@ pub fn numbers_of(d: Dims) -> u64
 }
 
 // The history count and the two lengths agree with the head.
-pub fn sizes_ok(b: &[i64], wide: u64, d: Dims) -> bool
+fn sizes_ok(b: &[i64], wide: u64, d: Dims) -> bool
     requires { ⌜ (6 ≤ length (now b)) × Dimensioned d ⌝ }
     ensures { λ r. ⌜ r ≡ every (sizeTests d (now (b .entry)) wide) ⌝ }
 {
@@ -118,6 +119,30 @@ pub fn sizes_ok(b: &[i64], wide: u64, d: Dims) -> bool
     let numbers = numbers_of(d);
     let long = b.len() as u64;
     (count <= d.histories) & (long == numbers) & (wide == 32 * customers)
+}
+
+// What reading the head finds: a book of these dimensions, or none.
+pub enum Head {
+    Book(Dims),
+    Damaged,
+}
+
+// The head read: the dimensions where it is in its ranges and the two lengths agree with it.
+pub fn head_of(b: &[i64], names: &[u8]) -> Head
+    ensures { λ r. ⌜ HeadSays (now (b .entry)) (length (now (names .entry))) r ⌝ }
+{
+    if b.len() < 6 {
+        return Head::Damaged;
+    }
+    let d = dims_of(b);
+    if !dims_ok(d) {
+        return Head::Damaged;
+    }
+    let wide = names.len() as u64;
+    if !sizes_ok(b, wide, d) {
+        return Head::Damaged;
+    }
+    Head::Book(d)
 }
 
 // The head is in its ranges and the two lengths agree with it.
@@ -179,7 +204,7 @@ pub fn stock_at(d: Dims, w: u64, i: u64) -> u64
 }
 
 // The slot of an order number.
-pub fn slot_of(d: Dims, o: u64) -> u64
+fn slot_of(d: Dims, o: u64) -> u64
     requires { ⌜ R (d .orders) o ⌝ }
     ensures { λ r. ⌜ (r ≡ slot d o) × R (d .orders) r ⌝ }
 {
@@ -196,19 +221,40 @@ pub fn order_at(d: Dims, w: u64, k: u64, o: u64) -> u64
     order_base(d) + 81 * (block + (slot - 1))
 }
 
+// Rows of orders that follow each other: where the first starts, and how many they are.
+pub struct Run {
+    pub at: u64,
+    pub count: u64,
+}
+
+// The rows of the n orders of a district from number `first` on.
+pub fn orders_run(d: Dims, w: u64, k: u64, first: u64, n: u64) -> Run
+    requires { ⌜ Dimensioned d × (R (d .warehouses) w × (R 10 k × (R (d .orders) first × (first + n ≤ d .orders + 1)))) ⌝ }
+    ensures { λ r. ⌜ RunOf d w k first n r ⌝ }
+{
+    let at = order_at(d, w, k, first);
+    Run { at, count: n }
+}
+
+// The rows of the first n orders in a district's section of orders, lent by itself.
+pub fn section_run(n: u64) -> Run
+    ensures { λ r. ⌜ SectionRun n r ⌝ }
+{
+    Run { at: 0, count: n }
+}
+
+// Where row i, from 0, of a run starts.
+pub fn order_in(run: Run, i: u64) -> u64
+    requires { ⌜ rowIn run i < 2 ^ 63 ⌝ }
+    ensures { λ r. ⌜ r ≡ rowIn run i ⌝ }
+{
+    run.at + 81 * i
+}
+
 // Where the history row h starts, h from 1.
 pub fn history_at(d: Dims, h: u64) -> u64
     requires { ⌜ Dimensioned d × R (d .histories) h ⌝ }
     ensures { λ r. ⌜ (r ≡ place (shapes d) (historyRow h)) × (r + 7 ≤ numbers d) ⌝ }
 {
     history_base(d) + 7 * (h - 1)
-}
-
-// Where the names of a customer start.
-pub fn name_at(d: Dims, w: u64, k: u64, c: u64) -> u64
-    requires { ⌜ Dimensioned d × (R (d .warehouses) w × (R 10 k × R (d .customers) c)) ⌝ }
-    ensures { λ r. ⌜ (r ≡ namePlace d w k c) × (r + 32 ≤ nameBytes d) ⌝ }
-{
-    let block = (10 * (w - 1) + (k - 1)) * d.customers;
-    32 * (block + (c - 1))
 }
