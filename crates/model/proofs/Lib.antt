@@ -1,5 +1,6 @@
 -- Laws of the definitions.
 pub mod TestLaws
+pub mod AnswerLaws
 pub mod NumberLaws
 pub mod Places
 pub mod Frame

@@ -152,3 +152,11 @@ largest-last f (suc n) j r h = go (f (suc n)) refl h (decLt j (suc n)) (λ q s. 
     go true p g d rec = absurd (omega arith)
     go false p g (yes q) rec = rec (record { lo = r .lo; hi = omega arith }) g
     go false p g (no q) rec = let s : j ≡ suc n = omega arith in ap f s ∙ p
+
+-- the same tests, the same first number
+pub lowest-same : (f g : ℕ → Bool) (k n : ℕ) → ((j : ℕ) → k ≤ j → j < k + n → f j ≡ g j) → lowest f k n ≡ lowest g k n
+unfolding lowest
+lowest-same f g k zero h = refl
+lowest-same f g k (suc n) h =
+    let t = lowest-same f g (suc k) n (λ j l u. h j (omega arith) (omega arith)) in
+    rw (h k (omega arith) (omega arith), t)

@@ -2,14 +2,15 @@
 -- Assumes nothing.
 use mathlib.Core.Path.{_≡_, refl, sym, ap, _∙_}
 use mathlib.Core.Logic.{_≢_}
-use mathlib.Core.Bool.{Bool, true, false, _&&_, cond}
+use mathlib.Core.Bool.{Bool, true, false, not, _&&_, cond}
 use mathlib.Core.List.{List, [], _∷_, _++_}
 use Prim.Native.Nat.{ℕ, zero, suc, _+_, _≤_, _<_}
 use native.Mathlib.Omega.{arith}
 use native.Mathlib.Decide.{ℕ-discrete}
 use native.Mathlib.Numerals.{add-one}
 use lib.Dec.{leb, ltb, eqb}
-use borrow.Author.Tests.{leb-true, ltb-true, eqb-false}
+use borrow.Author.Tests.{leb-true, ltb-true, eqb-false, not-true, not-false}
+use Rattle.model.specs.declared.Refusal.{Refusal}
 use Rattle.model.specs.Tests.{andAll, every, within, allTo, Check, chk, bare, refusal, fault, staged}
 use Rattle.model.specs.Claim.{R}
 
@@ -143,6 +144,14 @@ fault-parts (c ∷ xs) ys n e = go (c .ok) refl (λ q. fault-parts xs ys (and-ri
     go : (x : Bool) → c .ok ≡ x → (fault (xs ++ ys) .number ≡ 0 → (fault xs .number ≡ 0) × (fault ys .number ≡ 0)) → (cond (c .ok) (fault xs) (refusal c) .number ≡ 0) × (fault ys .number ≡ 0)
     go true p rec = rw p (rec (ap (λ (x : Bool). cond x (fault (xs ++ ys)) (refusal c) .number) (sym p) ∙ e))
     go false p rec = fails c xs (xs ++ ys) p n e
+
+-- ── tests in turn, as code makes them: `if !t { return refused(n); }`, t by what its call ensures; f is the first refusal of the tests behind ──
+module _ {t a : Bool} {r : Refusal} (n : ℕ) (f : Refusal) (e : t ≡ a) where
+  pub turned-away : not t ≡ true → r ≡ bare n → r ≡ cond a f (bare n)
+  turned-away s g = g ∙ rw (← e, not-true t s)
+
+  pub passed-on : not t ≡ false → r ≡ f → r ≡ cond a f (bare n)
+  passed-on s g = g ∙ rw (← e, not-false t s)
 
 -- ── a call's stages ──
 -- all three find nothing

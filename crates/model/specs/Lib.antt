@@ -20,3 +20,4 @@ pub mod RequestLine
 pub mod AnswerLine
 pub mod Tally
 pub mod Claim
+pub mod Contracts

@@ -21,8 +21,8 @@ returns : tie.Need-returns
 unfolding rowIn
 returns c =
     let at : (i : ℕ) → i < c .before .args .n → (c .order-at .result + 81 * i ≡ place (shapes (c .before .args .d)) (orderRow (c .before .args .d) (c .before .args .w) (c .before .args .k) (c .before .args .first + i))) × (c .order-at .result + 81 * i + 81 ≤ numbers (c .before .args .d)) = λ i h.
-        let e = order-run (c .before .args .d) (c .before .args .w) (c .before .args .k) (c .before .args .first) i (c .before .pre .1 .0) (c .before .pre .1 .1 .0) (c .before .pre .1 .1 .1 .0 .lo) (omega (arith, h, c .before .pre .1 .1 .1 .1)) in
-        (omega (arith, e, c .order-at .ensures .0), omega (arith, e, c .order-at .ensures .0)) in
+    let e = order-run (c .before .args .d) (c .before .args .w) (c .before .args .k) (c .before .args .first) i (c .before .pre .1 .0) (c .before .pre .1 .1 .0) (c .before .pre .1 .1 .1 .0 .lo) (omega (arith, h, c .before .pre .1 .1 .1 .1)) in
+    (omega (arith, e, c .order-at .ensures .0), omega (arith, e, c .order-at .ensures .0)) in
     record { count = refl; each = λ i h. at i h .0; ends = λ i h. at i h .1 }
 
 pub orders-run-spec : {M : Type 1} → statement M
