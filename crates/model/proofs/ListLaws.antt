@@ -160,3 +160,11 @@ lowest-same f g k zero h = refl
 lowest-same f g k (suc n) h =
     let t = lowest-same f g (suc k) n (λ j l u. h j (omega arith) (omega arith)) in
     rw (h k (omega arith) (omega arith), t)
+
+-- the same tests, the same largest number
+pub largest-same : (f g : ℕ → Bool) (n : ℕ) → ((j : ℕ) → R n j → f j ≡ g j) → largest f n ≡ largest g n
+unfolding largest
+largest-same f g zero h = refl
+largest-same f g (suc n) h =
+    let p = largest-same f g n (λ j r. h j (record { lo = r .lo; hi = omega (arith, r .hi) })) in
+    rw (p, h (suc n) (record { lo = omega arith; hi = omega arith }))
