@@ -25,6 +25,9 @@ and-right false b e = cc
 pub and-both : (a b : Bool) → a ≡ true → b ≡ true → (a && b) ≡ true
 and-both a b p q = rw (p, q)
 
+pub and-same : {s t a b : Bool} → s ≡ a → t ≡ b → (s && t) ≡ (a && b)
+and-same p q = rw (p, q)
+
 -- what the tests of a list say one by one
 abbrev pub Each : List Bool → Type 0
 Each [] = Unit {0}
