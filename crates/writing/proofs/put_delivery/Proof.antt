@@ -1,15 +1,14 @@
 use borrow.Author.Needs.{needs}
-use mathlib.Core.Path.{refl, _∙_}
+use mathlib.Core.Path.{_∙_}
 use native.Mathlib.Omega.{arith}
 use lib.ListN.{length-set}
-use Rattle.model.specs.RequestLine.{fieldsOf}
-use Rattle.writing.proofs.Putting.{small-delivery, whole-of}
-use borrow.Author.Needs.{needs}
+use Rattle.model.specs.RequestLine.{fieldsOf, lineOf}
+use Rattle.text.proofs.Putting.{whole-line}
 use Rattle.writing.proofs.put_delivery.Statement.{statement}
 use Rattle.writing.proofs.put_delivery.Tie as tie
 use Rattle.writing.proofs.put_delivery.Reads as reads
 use Rattle.writing.proofs.put_delivery.Lts as lts
-use Rattle.writing.proofs.put_three.Reads as put-three-reads
+use Rattle.text.proofs.put_three.Reads as put-three-reads
 
 -- src/lib.rt:709:5
 slice-write-line : tie.Need-slice-write-line
@@ -18,12 +17,12 @@ slice-write-line c = search needs
 -- src/lib.rt:710:9
 put-three-requires : tie.Need-put-three-requires
 put-three-requires c κs =
-    let s = small-delivery (c .before .before .args .q) (c .before .before .pre .0) in (s .warehouse, (s .carrier, (s .date, simp length-set (omega (arith, c .before .before .pre .1)))))
+    simp length-set (omega (arith, (c .before .before .pre)))
 
 -- src/lib.rt:711:5
 slice-write-line-2 : tie.Need-slice-write-line-2
 slice-write-line-2 c =
-    omega (arith, c .before .before .before .before .before .pre .1, c .before .before .put-three .ensures .1, c .before .before .put-three .kept .0, length-set (c .before .before .before .before .before .args .line .now) 0 68)
+    omega (arith, (c .before .before .before .before .before .pre), c .before .before .put-three .ensures .1, c .before .before .put-three .kept .0, length-set (c .before .before .before .before .before .args .line .now) 0 68)
 
 -- src/lib.rt:712:5
 add-result : tie.Need-add-result
@@ -36,9 +35,9 @@ same-length c =
 
 -- src/lib.rt:705:1
 returns : tie.Need-returns
-unfolding fieldsOf
+unfolding fieldsOf lineOf
 returns c =
-    whole-of (c .before .before .before .before .before .args .line .now) _ _ 68 _ (c .before .before .before .before .before .pre .1) refl (c .before .before .put-three .ensures .0) (c .before .before .put-three .kept .0) (omega (arith, c .before .before .put-three .ensures .1))
+    (whole-line _ _ _ _ _ (c .before .before .put-three .ensures .0), omega (arith, c .before .before .put-three .ensures .1))
 
 pub put-delivery-spec : {M : Type 1} → statement M
 put-delivery-spec =

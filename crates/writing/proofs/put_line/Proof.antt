@@ -4,7 +4,7 @@ use mathlib.Core.Bool.{true}
 use Rattle.model.specs.declared.Form.{Form}
 use Rattle.model.specs.Request.{requestOf, linesOf}
 use Rattle.model.specs.RequestLine.{hasForm}
-use borrow.Author.Needs.{needs}
+use Rattle.writing.proofs.Putting.{order-few, payment-who, status-who}
 use Rattle.writing.proofs.put_line.Statement.{statement}
 use Rattle.writing.proofs.put_line.Tie as tie
 use Rattle.writing.proofs.put_line.Reads as reads
@@ -22,7 +22,7 @@ enum-known-form c = search needs
 -- src/lib.rt:784:30
 put-new-order-requires : tie.Need-put-new-order-requires
 put-new-order-requires c κs =
-    (subst (λ (f : Form). hasForm (requestOf f (linesOf (c .before .before .before .before .before .before .before .before .before .args .items .now) (c .before .before .before .before .before .before .before .before .before .args .supplies .now) (c .before .before .before .before .before .before .before .before .before .args .quantities .now)) (c .before .before .before .before .before .before .before .before .before .args .name .now)) ≡ true) (c .before .before .form .given .1) (c .before .before .before .before .before .before .before .before .before .pre .0), c .before .before .before .before .before .before .before .before .before .pre .1)
+    (order-few _ _ (subst (λ (f : Form). hasForm (requestOf f (linesOf (c .before .before .before .before .before .before .before .before .before .args .items .now) (c .before .before .before .before .before .before .before .before .before .args .supplies .now) (c .before .before .before .before .before .before .before .before .before .args .quantities .now)) (c .before .before .before .before .before .before .before .before .before .args .name .now)) ≡ true) (c .before .before .form .given .1) (c .before .before .before .before .before .before .before .before .before .pre .0)), c .before .before .before .before .before .before .before .before .before .pre .1)
 
 -- src/lib.rt:785:23
 enum-known-form-2 : tie.Need-enum-known-form-2
@@ -31,7 +31,7 @@ enum-known-form-2 c = search needs
 -- src/lib.rt:785:34
 put-payment-requires : tie.Need-put-payment-requires
 put-payment-requires c κs =
-    (subst (λ (f : Form). hasForm (requestOf f (linesOf (c .before .before .before .before .before .before .before .before .before .args .items .now) (c .before .before .before .before .before .before .before .before .before .args .supplies .now) (c .before .before .before .before .before .before .before .before .before .args .quantities .now)) (c .before .before .before .before .before .before .before .before .before .args .name .now)) ≡ true) (c .before .before .form2 .given .1) (c .before .before .before .before .before .before .before .before .before .pre .0), c .before .before .before .before .before .before .before .before .before .pre .1)
+    (payment-who _ _ (subst (λ (f : Form). hasForm (requestOf f (linesOf (c .before .before .before .before .before .before .before .before .before .args .items .now) (c .before .before .before .before .before .before .before .before .before .args .supplies .now) (c .before .before .before .before .before .before .before .before .before .args .quantities .now)) (c .before .before .before .before .before .before .before .before .before .args .name .now)) ≡ true) (c .before .before .form2 .given .1) (c .before .before .before .before .before .before .before .before .before .pre .0)), c .before .before .before .before .before .before .before .before .before .pre .1)
 
 -- src/lib.rt:786:24
 enum-known-form-3 : tie.Need-enum-known-form-3
@@ -40,7 +40,7 @@ enum-known-form-3 c = search needs
 -- src/lib.rt:786:30
 put-delivery-requires : tie.Need-put-delivery-requires
 put-delivery-requires c κs =
-    (subst (λ (f : Form). hasForm (requestOf f (linesOf (c .before .before .before .before .before .before .before .before .before .args .items .now) (c .before .before .before .before .before .before .before .before .before .args .supplies .now) (c .before .before .before .before .before .before .before .before .before .args .quantities .now)) (c .before .before .before .before .before .before .before .before .before .args .name .now)) ≡ true) (c .before .before .form3 .given .1) (c .before .before .before .before .before .before .before .before .before .pre .0), c .before .before .before .before .before .before .before .before .before .pre .1)
+    c .before .before .before .before .before .before .before .before .before .pre .1
 
 -- src/lib.rt:787:27
 enum-known-form-4 : tie.Need-enum-known-form-4
@@ -49,7 +49,7 @@ enum-known-form-4 c = search needs
 -- src/lib.rt:787:38
 put-order-status-requires : tie.Need-put-order-status-requires
 put-order-status-requires c κs =
-    (subst (λ (f : Form). hasForm (requestOf f (linesOf (c .before .before .before .before .before .before .before .before .before .args .items .now) (c .before .before .before .before .before .before .before .before .before .args .supplies .now) (c .before .before .before .before .before .before .before .before .before .args .quantities .now)) (c .before .before .before .before .before .before .before .before .before .args .name .now)) ≡ true) (c .before .before .form4 .given .1) (c .before .before .before .before .before .before .before .before .before .pre .0), c .before .before .before .before .before .before .before .before .before .pre .1)
+    (status-who _ _ (subst (λ (f : Form). hasForm (requestOf f (linesOf (c .before .before .before .before .before .before .before .before .before .args .items .now) (c .before .before .before .before .before .before .before .before .before .args .supplies .now) (c .before .before .before .before .before .before .before .before .before .args .quantities .now)) (c .before .before .before .before .before .before .before .before .before .args .name .now)) ≡ true) (c .before .before .form4 .given .1) (c .before .before .before .before .before .before .before .before .before .pre .0)), c .before .before .before .before .before .before .before .before .before .pre .1)
 
 -- src/lib.rt:788:26
 enum-known-form-5 : tie.Need-enum-known-form-5
@@ -58,7 +58,7 @@ enum-known-form-5 c = search needs
 -- src/lib.rt:788:32
 put-stock-level-requires : tie.Need-put-stock-level-requires
 put-stock-level-requires c κs =
-    (subst (λ (f : Form). hasForm (requestOf f (linesOf (c .before .before .before .before .before .before .before .before .before .args .items .now) (c .before .before .before .before .before .before .before .before .before .args .supplies .now) (c .before .before .before .before .before .before .before .before .before .args .quantities .now)) (c .before .before .before .before .before .before .before .before .before .args .name .now)) ≡ true) (c .before .before .form5 .given .1) (c .before .before .before .before .before .before .before .before .before .pre .0), c .before .before .before .before .before .before .before .before .before .pre .1)
+    c .before .before .before .before .before .before .before .before .before .pre .1
 
 -- src/lib.rt:772:1
 same-length : tie.Need-same-length

@@ -1,9 +1,9 @@
 use Rattle.cells.proofs.Signed.{tested, cast-asks}
-use Rattle.answers.proofs.Putting.{turned, kept}
-use Rattle.answers.proofs.magnitude.Statement.{statement}
-use Rattle.answers.proofs.magnitude.Tie as tie
-use Rattle.answers.proofs.magnitude.Reads as reads
-use Rattle.answers.proofs.magnitude.Lts as lts
+use Rattle.text.proofs.Putting.{turned, kept}
+use Rattle.text.proofs.magnitude.Statement.{statement}
+use Rattle.text.proofs.magnitude.Tie as tie
+use Rattle.text.proofs.magnitude.Reads as reads
+use Rattle.text.proofs.magnitude.Lts as lts
 
 -- src/lib.rt:41:17
 sub-result : tie.Need-sub-result

@@ -1,15 +1,16 @@
 use native.Mathlib.Omega.{arith}
 use native.Mathlib.Nat.{mod-eq-of-lt}
 use lib.ListN.{length-set}
-use Rattle.answers.proofs.Putting.{decimals-small, decimals-more, length-more, length-small, sets-append}
+use Rattle.model.proofs.DecimalLaws.{dec-small, dec-more, length-more, length-small}
+use Rattle.text.proofs.Putting.{sets-append}
 use Prim.Native.Nat.{ℕ, _<_}
 use borrow.Fn.Kinds.{In}
 use borrow.Fn.PlainCycle.{Measures, is, falls, and}
-use Rattle.answers.proofs.put_digits.Reads as put-digits
-use Rattle.answers.proofs.put_digits.Kinds as put-digits-kinds
-use Rattle.answers.proofs.+put_digits.Lts-put_digits as put-digits-lts
-use Rattle.answers.proofs.+put_digits.{statement}
-use Rattle.answers.proofs.+put_digits.Tie.{close}
+use Rattle.text.proofs.put_digits.Reads as put-digits
+use Rattle.text.proofs.put_digits.Kinds as put-digits-kinds
+use Rattle.text.proofs.+put_digits.Lts-put_digits as put-digits-lts
+use Rattle.text.proofs.+put_digits.{statement}
+use Rattle.text.proofs.+put_digits.Tie.{close}
 
 abbrev μ-put-digits : Measures 1 put-digits-kinds.ps ℕ
 μ-put-digits κs a = a .1 .1 .0
@@ -45,14 +46,14 @@ put-digits-slice-write-line : (t : ℕ) → put-digits-lts.Need-slice-write-line
   put-digits-below t,
   put-digits.Post,
 ) (put-digits-at t) put-digits.Post
-put-digits-slice-write-line t c = omega (arith, c .before .before .pre .1 .1, length-small (c .before .before .args .n) (c .if1 .taken))
+put-digits-slice-write-line t c = omega (arith, c .before .before .pre .1, length-small (c .before .before .args .n) (c .if1 .taken))
 
 -- src/lib.rt
 put-digits-add-result : (t : ℕ) → put-digits-lts.Need-add-result (
   put-digits-below t,
   put-digits.Post,
 ) (put-digits-at t) put-digits.Post
-put-digits-add-result t c = omega (arith, c .before .before .pre .1 .1, length-small (c .before .before .args .n) (c .if1 .taken))
+put-digits-add-result t c = omega (arith, c .before .before .pre .1, length-small (c .before .before .args .n) (c .if1 .taken))
 
 -- src/lib.rt
 put-digits-same-length : (t : ℕ) → put-digits-lts.Need-same-length (
@@ -68,14 +69,14 @@ put-digits-returns :
     (put-digits-below t, put-digits.Post)
     (put-digits-at t)
     put-digits.Post
-put-digits-returns t c = record { same = rw (decimals-small (c .before .before .args .n) (c .if1 .taken), mod-eq-of-lt (c .if1 .taken)); place = omega (arith, length-small (c .before .before .args .n) (c .if1 .taken)) }
+put-digits-returns t c = record { same = rw (dec-small (c .before .before .args .n) (c .if1 .taken), mod-eq-of-lt (c .if1 .taken)); place = omega (arith, length-small (c .before .before .args .n) (c .if1 .taken)) }
 
 -- src/lib.rt
 put-digits-put-digits-requires : (t : ℕ) → put-digits-lts.Need-put-digits-requires (
   put-digits-below t,
   put-digits.Post,
 ) (put-digits-at t) put-digits.Post
-put-digits-put-digits-requires t c κs = let a = c .before .before .before in (omega (arith, a .pre .0), (omega (arith, a .pre .1), omega (arith, a .pre .1 .1, length-more (a .args .n) (c .before .if1 .left) (a .pre .1 .0))))
+put-digits-put-digits-requires t c κs = let a = c .before .before .before in let u : a .args .n < 100000000000000000000 = omega (arith, a .good .1 .1 .0) in (omega (arith, a .pre .0), omega (arith, a .pre .1, length-more (a .args .n) (c .before .if1 .left) u))
 
 -- src/lib.rt
 put-digits-add-line-2 : (t : ℕ) → put-digits-lts.Need-add-line-2 (
@@ -96,28 +97,28 @@ put-digits-slice-write-line-2 : (t : ℕ) → put-digits-lts.Need-slice-write-li
   put-digits-below t,
   put-digits.Post,
 ) (put-digits-at t) put-digits.Post
-put-digits-slice-write-line-2 t c = let a = c .before .before .before .before .before .before in let r = c .before .before .put-digits in let h = c .before .before .before .before .if1 .left in omega (arith, a .pre .1 .1, r .kept .0, r .ensures .place, length-more (a .args .n) h (a .pre .1 .0))
+put-digits-slice-write-line-2 t c = let a = c .before .before .before .before .before .before in let u : a .args .n < 100000000000000000000 = omega (arith, a .good .1 .1 .0) in let r = c .before .before .put-digits in let h = c .before .before .before .before .if1 .left in omega (arith, a .pre .1, r .kept .0, r .ensures .place, length-more (a .args .n) h u)
 
 -- src/lib.rt
 put-digits-add-result-2 : (t : ℕ) → put-digits-lts.Need-add-result-2 (
   put-digits-below t,
   put-digits.Post,
 ) (put-digits-at t) put-digits.Post
-put-digits-add-result-2 t c = let a = c .before .before .before .before .before .before in let r = c .before .before .put-digits in let h = c .before .before .before .before .if1 .left in omega (arith, a .pre .1 .1, r .kept .0, r .ensures .place, length-more (a .args .n) h (a .pre .1 .0), a .good .0 .0)
+put-digits-add-result-2 t c = let a = c .before .before .before .before .before .before in let u : a .args .n < 100000000000000000000 = omega (arith, a .good .1 .1 .0) in let r = c .before .before .put-digits in let h = c .before .before .before .before .if1 .left in omega (arith, a .pre .1, r .kept .0, r .ensures .place, length-more (a .args .n) h u, a .good .0 .0)
 
 -- src/lib.rt
 put-digits-same-length-2 : (t : ℕ) → put-digits-lts.Need-same-length-2 (
   put-digits-below t,
   put-digits.Post,
 ) (put-digits-at t) put-digits.Post
-put-digits-same-length-2 t c = let a = c .before .before .before .before .before .before in let r = c .before .before .put-digits in let h = c .before .before .before .before .if1 .left in simp length-set (r .kept .0)
+put-digits-same-length-2 t c = let a = c .before .before .before .before .before .before in let u : a .args .n < 100000000000000000000 = omega (arith, a .good .1 .1 .0) in let r = c .before .before .put-digits in let h = c .before .before .before .before .if1 .left in simp length-set (r .kept .0)
 
 -- src/lib.rt
 put-digits-returns-2 : (t : ℕ) → put-digits-lts.Need-returns-2 (
   put-digits-below t,
   put-digits.Post,
 ) (put-digits-at t) put-digits.Post
-put-digits-returns-2 t c = let a = c .before .before .before .before .before .before in let r = c .before .before .put-digits in let h = c .before .before .before .before .if1 .left in record { same = rw (decimals-more (a .args .n) h (a .pre .1 .0), sets-append, ← r .ensures .same, ← r .ensures .place); place = omega (arith, r .ensures .place, length-more (a .args .n) h (a .pre .1 .0)) }
+put-digits-returns-2 t c = let a = c .before .before .before .before .before .before in let u : a .args .n < 100000000000000000000 = omega (arith, a .good .1 .1 .0) in let r = c .before .before .put-digits in let h = c .before .before .before .before .if1 .left in record { same = rw (dec-more (a .args .n) h u, sets-append, ← r .ensures .same, ← r .ensures .place); place = omega (arith, r .ensures .place, length-more (a .args .n) h u) }
 
 pub +put-digits-spec : {M : Type 1} → statement M
 +put-digits-spec = close μ-put-digits λ t. put-digits-lts.spec (

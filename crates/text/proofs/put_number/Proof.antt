@@ -1,13 +1,14 @@
 use native.Mathlib.Omega.{arith}
 use mathlib.Core.Path.{_∙_}
 use lib.ListN.{length-set}
-use Rattle.answers.proofs.Putting.{decimals-most, put-natural}
+use Rattle.model.proofs.DecimalLaws.{dec-most}
+use Rattle.text.proofs.Putting.{one-field}
 use borrow.Author.Needs.{needs}
-use Rattle.answers.proofs.put_nat.Statement.{statement}
-use Rattle.answers.proofs.put_nat.Tie as tie
-use Rattle.answers.proofs.put_nat.Reads as reads
-use Rattle.answers.proofs.put_nat.Lts as lts
-use Rattle.answers.proofs.put_digits.Reads as put-digits-reads
+use Rattle.text.proofs.put_number.Statement.{statement}
+use Rattle.text.proofs.put_number.Tie as tie
+use Rattle.text.proofs.put_number.Reads as reads
+use Rattle.text.proofs.put_number.Lts as lts
+use Rattle.text.proofs.put_digits.Reads as put-digits-reads
 
 -- src/lib.rt:51:5
 slice-write-line : tie.Need-slice-write-line
@@ -20,7 +21,7 @@ add-put-digits c = search needs
 -- src/lib.rt:52:5
 put-digits-requires : tie.Need-put-digits-requires
 put-digits-requires c κs =
-    (search needs, simp length-set (omega (arith, (c .before .before .pre), decimals-most (c .before .before .args .n))))
+    simp length-set (omega (arith, c .before .before .pre))
 
 -- src/lib.rt:47:1
 same-length : tie.Need-same-length
@@ -30,8 +31,8 @@ same-length c =
 -- src/lib.rt:47:1
 returns : tie.Need-returns
 returns c =
-    (put-natural _ _ _ _ _ (c .before .before .put-digits .ensures), omega (arith, c .before .before .put-digits .ensures .place, decimals-most (c .before .before .before .before .before .args .n)))
+    (one-field _ _ _ _ _ (c .before .before .put-digits .ensures), omega (arith, c .before .before .put-digits .ensures .place, dec-most (c .before .before .before .before .before .args .n)))
 
-pub put-nat-spec : {M : Type 1} → statement M
-put-nat-spec =
+pub put-number-spec : {M : Type 1} → statement M
+put-number-spec =
     tie.close (tie.spec slice-write-line add-put-digits put-digits-requires same-length returns)

@@ -4,14 +4,14 @@ use mathlib.Core.Path.{_≡_, sym, _∙_}
 use lib.ListN.{length, drop}
 use native.Mathlib.Omega.{arith}
 use Rattle.model.proofs.DecimalLaws.{digit-in}
-use Rattle.lines.specs.Fields.{numberRead}
-use Rattle.lines.proofs.Walk.{digitsFrom, none-empty, none-long, none-zero, digits-all, digits-step, digits-stop, digits-end, power-step, power-top}
-use Rattle.lines.proofs.number_of.Statement.{statement}
-use Rattle.lines.proofs.number_of.Tie as tie
-use Rattle.lines.proofs.number_of.Reads as reads
-use Rattle.lines.proofs.number_of.Lts as lts
-use Rattle.lines.proofs.is_digit.Reads as is-digit-reads
-use Rattle.lines.proofs.wide.Reads as wide-reads
+use Rattle.text.specs.Fields.{numberRead}
+use Rattle.text.proofs.Walk.{digitsFrom, none-empty, none-long, none-zero, digits-all, digits-step, digits-stop, digits-end, power-step, power-top}
+use Rattle.text.proofs.number_of.Statement.{statement}
+use Rattle.text.proofs.number_of.Tie as tie
+use Rattle.text.proofs.number_of.Reads as reads
+use Rattle.text.proofs.number_of.Lts as lts
+use Rattle.text.proofs.is_digit.Reads as is-digit-reads
+use Rattle.text.proofs.wide.Reads as wide-reads
 
 abbrev Inv-loop : tie.InvT-loop
 Inv-loop f n v₀ i₀ v i = (i ≤ length f) × ((length f ≤ 10) × ((n ≡ length f) × ((v < 10 ^ i) × (numberRead f ≡ digitsFrom v (drop i f)))))

@@ -1,13 +1,12 @@
 use borrow.Author.Needs.{needs}
 use mathlib.Core.Path.{sym, _∙_}
-use Rattle.lines.proofs.Walk.{none-past, step-not, step-is}
-use borrow.Author.Needs.{needs}
-use Rattle.lines.proofs.number_at.Statement.{statement}
-use Rattle.lines.proofs.number_at.Tie as tie
-use Rattle.lines.proofs.number_at.Reads as reads
-use Rattle.lines.proofs.number_at.Lts as lts
-use Rattle.lines.proofs.field_end.Reads as field-end-reads
-use Rattle.lines.proofs.number_of.Reads as number-of-reads
+use Rattle.text.proofs.Walk.{none-past, step-not, step-is}
+use Rattle.text.proofs.number_at.Statement.{statement}
+use Rattle.text.proofs.number_at.Tie as tie
+use Rattle.text.proofs.number_at.Reads as reads
+use Rattle.text.proofs.number_at.Lts as lts
+use Rattle.text.proofs.field_end.Reads as field-end-reads
+use Rattle.text.proofs.number_of.Reads as number-of-reads
 
 -- src/lib.rt:91:9
 returns : tie.Need-returns
