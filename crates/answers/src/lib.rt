@@ -42,17 +42,6 @@ fn two_line(line: &mut [u8], x: u8, a: u64, b: u64) -> usize
     p + 1
 }
 
-// New-Order's line: order and total.
-fn new_order_line(line: &mut [u8], order: u64, total: u64) -> usize
-    requires { ⌜ 2048 ≤ length (now line) ⌝ }
-    ensures { λ r. ⌜ Wrote (now (line .entry)) (now (line .exit)) 0 r (textOf 78 (pos 0 ∷ pos order ∷ pos total ∷ [])) × (r ≤ 2048) ⌝ }
-{
-    line[0] = 78;
-    let p = text::put_three(line, 1, 0, order, total);
-    line[p] = 10;
-    p + 1
-}
-
 // Payment's line: customer and balance.
 fn payment_line(line: &mut [u8], customer: u64, balance: i64) -> usize
     requires { ⌜ 2048 ≤ length (now line) ⌝ }
@@ -99,7 +88,7 @@ fn tell_new_order(line: &mut [u8], o: NewOrderOutcome) -> usize
     ensures { λ r. ⌜ Wrote (now (line .entry)) (now (line .exit)) 0 r (outcomeLine (RequestCase.NewOrder o) [] []) × (r ≤ 2048) ⌝ }
 {
     match o {
-        NewOrderOutcome::Committed(f) => new_order_line(line, f.order, f.total),
+        NewOrderOutcome::Committed(f) => text::three_line(line, 78, 0, f.order, f.total),
         NewOrderOutcome::Refused(r) => two_line(line, 78, r.number, r.detail),
     }
 }

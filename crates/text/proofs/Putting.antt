@@ -115,11 +115,10 @@ magnitude-fits : (z : ℤ) → SFits w64 z → natAbs z < 10000000000000000000
 magnitude-fits (pos n) f = omega (arith, f .sfits)
 magnitude-fits (negsuc n) f = omega (arith, f .sfits)
 
--- a signed number, by its sign and digits
-module _ (z : ℤ) (n : ℕ) (f : SFits w64 z) (e : n ≡ natAbs z) where
-  pub magnitude-few : length (decimal n) ≤ 19
-  magnitude-few = rw e (dec-few 18 (natAbs z) (omega arith) (magnitude-fits z f))
+pub magnitude-few : (z : ℤ) (n : ℕ) → SFits w64 z → n ≡ natAbs z → length (decimal n) ≤ 19
+magnitude-few z n f e = rw e (dec-few 18 (natAbs z) (omega arith) (magnitude-fits z f))
 
+-- a signed number, by its sign and digits
 plain : (z : ℤ) → ltZ z (pos 0) ≡ false → decimal (natAbs z) ≡ signed z
 plain (pos n) e = refl
 plain (negsuc n) e = absurd (let q : _≡_ {A = ℕ} 0 1 = cc in omega arith)

@@ -4,7 +4,7 @@ ghost use mathlib.Core.List.{[], _∷_};
 ghost use Prim.Native.Nat.{_+_, _≤_, _<_};
 ghost use lib.IntN.{natAbs};
 ghost use lib.ListN.{length};
-ghost use Rattle.model.specs.Text.{isDigit, decimal, signed, signeds, positives, tabbed};
+ghost use Rattle.model.specs.Text.{isDigit, decimal, signed, signeds, positives, tabbed, lineText};
 ghost use Rattle.text.specs.Writing.{Wrote};
 ghost use Rattle.text.specs.Fields.{FieldEnd, numberRead, StepSays};
 
@@ -97,6 +97,17 @@ pub fn put_ten(line: &mut [u8], at: usize, numbers: [u64; 10]) -> usize
         i += 1;
     }
     p
+}
+
+// A line of a letter and three numbers, from the front.
+pub fn three_line(line: &mut [u8], x: u8, a: u64, b: u64, c: u64) -> usize
+    requires { ⌜ 65 ≤ length (now line) ⌝ }
+    ensures { λ r. ⌜ Wrote (now (line .entry)) (now (line .exit)) 0 r (lineText ((x ∷ []) ∷ decimal a ∷ decimal b ∷ decimal c ∷ [])) × (r ≤ 65) ⌝ }
+{
+    line[0] = x;
+    let p = put_three(line, 1, a, b, c);
+    line[p] = 10;
+    p + 1
 }
 
 // Where the part that starts at a position ends: at the next byte x, or at the end.

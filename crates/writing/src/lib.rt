@@ -131,28 +131,6 @@ fn put_lines(
     p
 }
 
-// A Delivery's line, from the front.
-fn put_delivery(line: &mut [u8], q: Delivery) -> usize
-    requires { ⌜ 1031 ≤ length (now line) ⌝ }
-    ensures { λ r. ⌜ Wrote (now (line .entry)) (now (line .exit)) 0 r (lineOf (delivery q)) × (r ≤ 1031) ⌝ }
-{
-    line[0] = 68;
-    let p = text::put_three(line, 1, q.warehouse, q.carrier, q.date);
-    line[p] = 10;
-    p + 1
-}
-
-// A Stock-Level's line, from the front.
-fn put_stock_level(line: &mut [u8], q: StockLevel) -> usize
-    requires { ⌜ 1031 ≤ length (now line) ⌝ }
-    ensures { λ r. ⌜ Wrote (now (line .entry)) (now (line .exit)) 0 r (lineOf (stockLevel q)) × (r ≤ 1031) ⌝ }
-{
-    line[0] = 76;
-    let p = text::put_three(line, 1, q.warehouse, q.district, q.threshold);
-    line[p] = 10;
-    p + 1
-}
-
 // An Order-Status's line, from the front.
 fn put_order_status(line: &mut [u8], q: OrderStatus, who: Selection, name: &[u8]) -> usize
     requires { ⌜ (hasWho (whoOf who (now name)) ≡ true) × (1031 ≤ length (now line)) ⌝ }
@@ -215,9 +193,9 @@ fn put_line(
     match form {
         Form::NewOrder(q) => put_new_order(line, q, items, supplies, quantities),
         Form::Payment(q, who) => put_payment(line, q, who, name),
-        Form::Delivery(q) => put_delivery(line, q),
+        Form::Delivery(q) => text::three_line(line, 68, q.warehouse, q.carrier, q.date),
         Form::OrderStatus(q, who) => put_order_status(line, q, who, name),
-        Form::StockLevel(q) => put_stock_level(line, q),
+        Form::StockLevel(q) => text::three_line(line, 76, q.warehouse, q.district, q.threshold),
     }
 }
 
