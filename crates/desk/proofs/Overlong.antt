@@ -14,7 +14,8 @@ use Rattle.model.specs.declared.Line.{Line}
 use Rattle.model.specs.Names.{Who, byNumber, byName}
 use Rattle.model.specs.Tests.{allOf}
 use Rattle.model.specs.Request.{Request, newOrder, payment, delivery, orderStatus, stockLevel}
-use Rattle.model.specs.RequestLine.{isDigit, isNumber, isPrintable, isName, hasDigits, decimal, hasWho, whoField, lineSmall, hasForm, lineFields, fieldsOf, tabbed, lineOf, Reading, read, noForm, readLine}
+use Rattle.model.specs.Text.{isDigit, isNumber, hasDigits, decimal, tabbed, lineText}
+use Rattle.model.specs.RequestLine.{isPrintable, isName, hasWho, whoField, lineSmall, hasForm, lineFields, fieldsOf, lineOf, Reading, read, noForm, readLine}
 use Rattle.model.specs.Request.{lent}
 use Rattle.model.specs.AnswerLine.{leftAfter}
 use Rattle.model.proofs.TestLaws.{every-each, and-left, and-right}
@@ -52,6 +53,7 @@ long-lines [] = refl
 long-lines (l ∷ ls) = omega (arith, long-lines ls)
 
 tabbed-most : (fs : List (List ℕ)) → allOf short fs ≡ true → length (tabbed fs) ≤ 18 * length fs
+unfolding tabbed
 tabbed-most [] e = omega arith
 tabbed-most (f ∷ fs) e =
     let s : length f ≤ 17 = leb-true (length f) 17 (and-left (short f) (allOf short fs) e) in
@@ -86,7 +88,7 @@ fields-few (stockLevel q) e =
     record { each = rw (short-decimal (q .warehouse) (h .0), short-decimal (q .district) (h .1 .0), short-decimal (q .threshold) (h .1 .1 .0)); most = omega arith }
 
 line-most : (r : Request) → hasForm r ≡ true → length (lineOf r) ≤ 1024
-unfolding lineOf
+unfolding lineOf lineText
 line-most r e =
     let f = fields-few r e in
     omega (arith, f .most, tabbed-most (fieldsOf r) (f .each), length-append (tabbed (fieldsOf r)) (10 ∷ []))

@@ -29,7 +29,7 @@ use Rattle.model.specs.RequestLine.{letter, Reading, read, noForm, padTo, items
 use Rattle.model.specs.AnswerLine.{printed, told, answerLine, noFormLine, printedFor, leftAfter}
 use Rattle.model.proofs.StatusFacts.{StatusUsed, status-ready, last-in}
 use Rattle.engine.specs.Carried.{Carried, lettered}
-use Rattle.answers.specs.Writing.{sample, outcomeLine, hasRoom, withLine, lengthIf}
+use Rattle.answers.specs.Writing.{Answered, sample, outcomeLine, hasRoom, withLine, lengthIf}
 use Rattle.answers.proofs.Putting.{room}
 use Rattle.desk.specs.Step.{requestIn, Held, roomy}
 
@@ -189,14 +189,14 @@ lent-part from count left = let e : from + count - from ≡ count = omega arith 
 
 module _ (b : List ℤ) (names out m : List ℕ) (q : Request) (r : RequestAnswer) (left shown : List ℤ) (n : ℕ) where
   pub answered : 2048 ≤ length out → Carried (lent b names) q r (lent left names) → shown ≡ partOf (r .part) left
-      → (n ≡ lengthIf (hasRoom out shown) (outcomeLine (r .outcome) (r .orders) shown)) × (m ≡ withLine (hasRoom out shown) (outcomeLine (r .outcome) (r .orders) shown) out)
+      → Answered (hasRoom out shown) (outcomeLine (r .outcome) (r .orders) shown) out m n
       → (n ≡ length (answerLine (lent b names) q)) × ((m ≡ answerLine (lent b names) q ++ drop (length (answerLine (lent b names) q)) out) × (left ≡ after (lent b names) q .nums))
   answered h c e w =
       let few : length shown ≤ 75 = rw (e, c .shows) (shown-most b names q) in
       let t : hasRoom out shown ≡ true = room out shown h few in
       let l : outcomeLine (r .outcome) (r .orders) shown ≡ answerLine (lent b names) q = ap (outcomeLine (r .outcome) (r .orders)) e ∙ line-told b names q r left c in
       let v = rw (t, l) at w in
-      (v .0, (v .1, c .leaves))
+      (v .long, (v .bytes, c .leaves))
 
 -- a part from the front
 pub front : (n : ℕ) → n - 0 ≡ n
@@ -223,12 +223,12 @@ module _ (b : List ℤ) (names out m : List ℕ) (left : List ℤ) (n : ℕ) {s 
 
   -- where it has no form
   pub told-none : 2048 ≤ length out → s ≡ noForm → left ≡ b
-      → (n ≡ lengthIf (hasRoom out []) noFormLine) × (m ≡ withLine (hasRoom out []) noFormLine out)
+      → Answered (hasRoom out []) noFormLine out m n
       → (n ≡ lengthIf (roomy out) (printedFor (lent b names) s)) × ((m ≡ withLine (roomy out) (printedFor (lent b names) s) out) × (left ≡ cond (roomy out) (leftAfter (lent b names) s .nums) b))
   unfolding printedFor leftAfter
   told-none h e k w =
       let v = rw (room out [] h (omega arith)) at w in
-      rw (e, le-leb 2048 (length out) h) (v .0, (v .1, k))
+      rw (e, le-leb 2048 (length out) h) (v .long, (v .bytes, k))
 
 -- where there is no room
 pub told-nothing : (b : List ℤ) (names out : List ℕ) (s : Reading) → length out < 2048

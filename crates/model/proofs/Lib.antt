@@ -11,6 +11,7 @@ pub mod ListLaws
 pub mod RuleLaws
 pub mod MarkLaws
 pub mod DecimalLaws
+pub mod TextLaws
 pub mod LineLaws
 pub mod Zipped
 pub mod PassLaws

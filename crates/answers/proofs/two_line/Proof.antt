@@ -1,13 +1,13 @@
 use native.Mathlib.Omega.{arith}
 use mathlib.Core.Path.{_∙_}
 use lib.ListN.{length-set}
-use Rattle.answers.proofs.Putting.{whole-line}
+use Rattle.text.proofs.Putting.{whole-line}
 use borrow.Author.Needs.{needs}
 use Rattle.answers.proofs.two_line.Statement.{statement}
 use Rattle.answers.proofs.two_line.Tie as tie
 use Rattle.answers.proofs.two_line.Reads as reads
 use Rattle.answers.proofs.two_line.Lts as lts
-use Rattle.answers.proofs.put_two.Reads as put-two-reads
+use Rattle.text.proofs.put_two.Reads as put-two-reads
 
 -- src/lib.rt:120:5
 slice-write-line : tie.Need-slice-write-line

@@ -1,5 +1,4 @@
 use borrow.Author.Needs.{needs}
-use borrow.Author.Needs.{needs}
 use Rattle.lines.proofs.lines_of.Statement.{statement}
 use Rattle.lines.proofs.lines_of.Tie as tie
 use Rattle.lines.proofs.lines_of.Reads as reads

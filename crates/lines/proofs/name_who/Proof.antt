@@ -2,7 +2,6 @@ use borrow.Author.Needs.{needs}
 use mathlib.Core.Path.{sym, _∙_}
 use Rattle.lines.specs.Fields.{whoByName}
 use Rattle.lines.proofs.Whos.{name-short}
-use borrow.Author.Needs.{needs}
 use Rattle.lines.proofs.name_who.Statement.{statement}
 use Rattle.lines.proofs.name_who.Tie as tie
 use Rattle.lines.proofs.name_who.Reads as reads

@@ -1,6 +1,5 @@
 use borrow.Author.Needs.{needs}
 use Rattle.model.specs.RequestLine.{stored}
-use borrow.Author.Needs.{needs}
 use Rattle.lines.proofs.no_form.Statement.{statement}
 use Rattle.lines.proofs.no_form.Tie as tie
 use Rattle.lines.proofs.no_form.Reads as reads

@@ -1,5 +1,4 @@
 use borrow.Author.Needs.{needs}
-use borrow.Author.Needs.{needs}
 use Rattle.lines.proofs.no_who.Statement.{statement}
 use Rattle.lines.proofs.no_who.Tie as tie
 use Rattle.lines.proofs.no_who.Reads as reads

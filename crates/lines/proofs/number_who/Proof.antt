@@ -1,14 +1,13 @@
 use borrow.Author.Needs.{needs}
 use mathlib.Core.Path.{sym, _∙_}
 use Rattle.lines.proofs.Whos.{by-number, by-none}
-use borrow.Author.Needs.{needs}
 use Rattle.lines.proofs.number_who.Statement.{statement}
 use Rattle.lines.proofs.number_who.Tie as tie
 use Rattle.lines.proofs.number_who.Reads as reads
 use Rattle.lines.proofs.number_who.Lts as lts
 use Rattle.lines.proofs.no_name.Reads as no-name-reads
 use Rattle.lines.proofs.no_who.Reads as no-who-reads
-use Rattle.lines.proofs.number_of.Reads as number-of-reads
+use Rattle.text.proofs.number_of.Reads as number-of-reads
 
 -- src/lib.rt:358:28
 number-of-requires : tie.Need-number-of-requires

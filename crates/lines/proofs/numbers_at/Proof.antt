@@ -3,14 +3,15 @@ use mathlib.Core.Path.{_≡_, subst}
 use Prim.Native.Nat.{_≤_, _-_, _<_}
 use native.Mathlib.Omega.{arith}
 use lib.ListN.{length, length-set}
-use Rattle.lines.specs.declared.Step.{Step}
-use Rattle.lines.specs.Fields.{StepSays, Run}
+use Rattle.text.specs.declared.Step.{Step}
+use Rattle.text.specs.Fields.{StepSays}
+use Rattle.lines.specs.Fields.{Run}
 use Rattle.lines.proofs.Walk.{run-start, run-step}
 use Rattle.lines.proofs.numbers_at.Statement.{statement}
 use Rattle.lines.proofs.numbers_at.Tie as tie
 use Rattle.lines.proofs.numbers_at.Reads as reads
 use Rattle.lines.proofs.numbers_at.Lts as lts
-use Rattle.lines.proofs.number_at.Reads as number-at-reads
+use Rattle.text.proofs.number_at.Reads as number-at-reads
 
 abbrev Inv-loop : tie.InvT-loop
 Inv-loop s at k values₀ next₀ count₀ values next count = Run s at count next values × ((count ≤ k) × (length values ≡ 49))

@@ -1,5 +1,4 @@
 use borrow.Author.Needs.{needs}
-use borrow.Author.Needs.{needs}
 use Rattle.lines.proofs.plain.Statement.{statement}
 use Rattle.lines.proofs.plain.Tie as tie
 use Rattle.lines.proofs.plain.Reads as reads

@@ -2,15 +2,14 @@ use borrow.Author.Needs.{needs}
 use mathlib.Core.Path.{sym, _∙_, ap}
 use Rattle.model.specs.RequestLine.{stored}
 use Rattle.lines.proofs.WhoForms.{body-not, body-is}
-use borrow.Author.Needs.{needs}
 use Rattle.lines.proofs.read_body.Statement.{statement}
 use Rattle.lines.proofs.read_body.Tie as tie
 use Rattle.lines.proofs.read_body.Reads as reads
 use Rattle.lines.proofs.read_body.Lts as lts
-use Rattle.lines.proofs.field_end.Reads as field-end-reads
+use Rattle.text.proofs.field_end.Reads as field-end-reads
 use Rattle.lines.proofs.no_form.Reads as no-form-reads
 use Rattle.lines.proofs.read_form.Reads as read-form-reads
-use Rattle.lines.proofs.wide.Reads as wide-reads
+use Rattle.text.proofs.wide.Reads as wide-reads
 
 -- src/lib.rt:520:9
 field-end-requires : tie.Need-field-end-requires

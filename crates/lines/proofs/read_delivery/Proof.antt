@@ -2,7 +2,6 @@ use borrow.Author.Needs.{needs}
 use mathlib.Core.Path.{sym, _∙_, ap}
 use Rattle.model.specs.RequestLine.{stored}
 use Rattle.lines.proofs.Forms.{delivery-left, delivery-not, delivery-is}
-use borrow.Author.Needs.{needs}
 use Rattle.lines.proofs.read_delivery.Statement.{statement}
 use Rattle.lines.proofs.read_delivery.Tie as tie
 use Rattle.lines.proofs.read_delivery.Reads as reads

@@ -1,7 +1,6 @@
 use borrow.Author.Needs.{needs}
 use Rattle.model.specs.RequestLine.{readFields}
 use borrow.Author.Tests.{eq-eqb, ne-eqb}
-use borrow.Author.Needs.{needs}
 use Rattle.lines.proofs.read_form.Statement.{statement}
 use Rattle.lines.proofs.read_form.Tie as tie
 use Rattle.lines.proofs.read_form.Reads as reads

@@ -2,7 +2,6 @@ use borrow.Author.Needs.{needs}
 use mathlib.Core.Path.{sym, _∙_, ap}
 use Rattle.model.specs.RequestLine.{stored}
 use Rattle.lines.proofs.Forms.{order-left, order-few, order-odd, order-is}
-use borrow.Author.Needs.{needs}
 use Rattle.lines.proofs.read_new_order.Statement.{statement}
 use Rattle.lines.proofs.read_new_order.Tie as tie
 use Rattle.lines.proofs.read_new_order.Reads as reads

@@ -4,7 +4,6 @@ use native.Mathlib.Nat.{le-antisymm}
 use Rattle.model.specs.RequestLine.{stored}
 use Rattle.lines.proofs.Whos.{who-found, who-lost}
 use Rattle.lines.proofs.WhoForms.{status-few, status-nobody, status-left, status-is}
-use borrow.Author.Needs.{needs}
 use Rattle.lines.proofs.read_order_status.Statement.{statement}
 use Rattle.lines.proofs.read_order_status.Tie as tie
 use Rattle.lines.proofs.read_order_status.Reads as reads

@@ -4,7 +4,6 @@ use native.Mathlib.Nat.{le-antisymm}
 use Rattle.model.specs.RequestLine.{stored}
 use Rattle.lines.proofs.Whos.{who-found, who-lost}
 use Rattle.lines.proofs.WhoForms.{payment-few, payment-nobody, payment-short, payment-left, payment-is}
-use borrow.Author.Needs.{needs}
 use Rattle.lines.proofs.read_payment.Statement.{statement}
 use Rattle.lines.proofs.read_payment.Tie as tie
 use Rattle.lines.proofs.read_payment.Reads as reads

@@ -2,7 +2,6 @@ use borrow.Author.Needs.{needs}
 use mathlib.Core.Path.{sym, _∙_, ap}
 use Rattle.model.specs.RequestLine.{stored}
 use Rattle.lines.proofs.Forms.{stock-left, stock-not, stock-is}
-use borrow.Author.Needs.{needs}
 use Rattle.lines.proofs.read_stock_level.Statement.{statement}
 use Rattle.lines.proofs.read_stock_level.Tie as tie
 use Rattle.lines.proofs.read_stock_level.Reads as reads

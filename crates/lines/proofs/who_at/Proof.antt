@@ -3,12 +3,11 @@ use mathlib.Core.Path.{sym, subst}
 use Rattle.lines.specs.declared.WhoStep.{WhoStep}
 use Rattle.lines.specs.Fields.{WhoSays}
 use Rattle.lines.proofs.Whos.{who-past, who-says}
-use borrow.Author.Needs.{needs}
 use Rattle.lines.proofs.who_at.Statement.{statement}
 use Rattle.lines.proofs.who_at.Tie as tie
 use Rattle.lines.proofs.who_at.Reads as reads
 use Rattle.lines.proofs.who_at.Lts as lts
-use Rattle.lines.proofs.field_end.Reads as field-end-reads
+use Rattle.text.proofs.field_end.Reads as field-end-reads
 use Rattle.lines.proofs.no_who.Reads as no-who-reads
 use Rattle.lines.proofs.who_of.Reads as who-of-reads
 

@@ -1,7 +1,6 @@
 use borrow.Author.Needs.{needs}
 use mathlib.Core.Path.{sym, _∙_}
 use Rattle.lines.proofs.Whos.{who-empty, who-number, who-name, who-none}
-use borrow.Author.Needs.{needs}
 use Rattle.lines.proofs.who_of.Statement.{statement}
 use Rattle.lines.proofs.who_of.Tie as tie
 use Rattle.lines.proofs.who_of.Reads as reads
@@ -9,7 +8,7 @@ use Rattle.lines.proofs.who_of.Lts as lts
 use Rattle.lines.proofs.name_who.Reads as name-who-reads
 use Rattle.lines.proofs.no_who.Reads as no-who-reads
 use Rattle.lines.proofs.number_who.Reads as number-who-reads
-use Rattle.lines.proofs.wide.Reads as wide-reads
+use Rattle.text.proofs.wide.Reads as wide-reads
 
 -- src/lib.rt:394:9
 no-who-requires : tie.Need-no-who-requires

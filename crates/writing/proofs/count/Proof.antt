@@ -1,7 +1,6 @@
 use borrow.Author.Needs.{needs}
 use native.Mathlib.Omega.{arith}
 use Rattle.writing.proofs.Putting.{least, count-is}
-use borrow.Author.Needs.{needs}
 use Rattle.writing.proofs.count.Statement.{statement}
 use Rattle.writing.proofs.count.Tie as tie
 use Rattle.writing.proofs.count.Reads as reads

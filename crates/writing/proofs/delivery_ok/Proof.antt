@@ -1,6 +1,5 @@
 use borrow.Author.Needs.{needs}
 use Rattle.model.specs.RequestLine.{hasForm}
-use borrow.Author.Needs.{needs}
 use Rattle.writing.proofs.delivery_ok.Statement.{statement}
 use Rattle.writing.proofs.delivery_ok.Tie as tie
 use Rattle.writing.proofs.delivery_ok.Reads as reads

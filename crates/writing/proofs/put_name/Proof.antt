@@ -3,9 +3,9 @@ use mathlib.Core.Path.{_∙_}
 use native.Mathlib.Omega.{arith}
 use Prim.Native.Nat.{_+_}
 use lib.ListN.{set, length-set}
-use Rattle.writing.proofs.Putting.{put-named}
+use Rattle.text.proofs.Putting.{marked-field}
+use Rattle.writing.proofs.Putting.{copied}
 use Rattle.lines.proofs.Whos.{name-short}
-use borrow.Author.Needs.{needs}
 use Rattle.writing.proofs.put_name.Statement.{statement}
 use Rattle.writing.proofs.put_name.Tie as tie
 use Rattle.writing.proofs.put_name.Reads as reads
@@ -50,7 +50,7 @@ same-length c =
 -- src/lib.rt:621:1
 returns : tie.Need-returns
 returns c =
-    (rw (c .before .before .copy .ensures) (put-named _ _ _ _ (omega (arith, c .before .before .before .before .before .before .pre .1, name-short (c .before .before .before .before .before .before .args .name .now) (c .before .before .before .before .before .before .pre .0)))), omega (arith, name-short (c .before .before .before .before .before .before .args .name .now) (c .before .before .before .before .before .before .pre .0)))
+    (rw (c .before .before .copy .ensures) (marked-field (c .before .before .before .before .before .before .args .line .now) _ (c .before .before .before .before .before .before .args .at) _ 61 (c .before .before .before .before .before .before .args .name .now) (copied _ _ (c .before .before .before .before .before .before .args .name .now) (simp length-set (omega (arith, c .before .before .before .before .before .before .pre .1, name-short (c .before .before .before .before .before .before .args .name .now) (c .before .before .before .before .before .before .pre .0)))))), omega (arith, name-short (c .before .before .before .before .before .before .args .name .now) (c .before .before .before .before .before .before .pre .0)))
 
 pub put-name-spec : {M : Type 1} → statement M
 put-name-spec =

@@ -4,7 +4,6 @@ use mathlib.Core.Bool.{true}
 use Rattle.model.specs.declared.Selection.{Selection}
 use Rattle.model.specs.Names.{whoOf}
 use Rattle.model.specs.RequestLine.{hasWho}
-use borrow.Author.Needs.{needs}
 use Rattle.writing.proofs.put_who.Statement.{statement}
 use Rattle.writing.proofs.put_who.Tie as tie
 use Rattle.writing.proofs.put_who.Reads as reads
@@ -19,7 +18,7 @@ enum-known-who c = search needs
 -- src/lib.rt:638:33
 put-hash-requires : tie.Need-put-hash-requires
 put-hash-requires c κs =
-    (subst (λ (w : Selection). hasWho (whoOf w (c .before .before .before .before .before .before .args .name .now)) ≡ true) (c .before .before .who .given .1) (c .before .before .before .before .before .before .pre .0), c .before .before .before .before .before .before .pre .1)
+    c .before .before .before .before .before .before .pre .1
 
 -- src/lib.rt:639:41
 enum-told : tie.Need-enum-told

@@ -1,5 +1,4 @@
 use borrow.Author.Needs.{needs}
-use borrow.Author.Needs.{needs}
 use Rattle.writing.proofs.who_ok.Statement.{statement}
 use Rattle.writing.proofs.who_ok.Tie as tie
 use Rattle.writing.proofs.who_ok.Reads as reads
