@@ -35,7 +35,7 @@ part-carry-out-start c = search needs
 -- src/lib.rt:123:17
 part-carry-out-end : tie.Need-part-carry-out-end
 part-carry-out-end c =
-    read-held (c .before .before .before .before .before .before .before .before .before .before .before .before .before .before .before .before .args .line .now) (c .before .before .before .before .before .before .before .before .before .before .before .read-line .result) (c .before .before .before .before .before .before .before .before .before .before .before .read-line .ensures) .items
+    omega (arith, read-held (c .before .before .before .before .before .before .before .before .before .before .before .before .before .before .before .before .args .line .now) (c .before .before .before .before .before .before .before .before .before .before .before .read-line .result) (c .before .before .before .before .before .before .before .before .before .before .before .read-line .ensures))
 
 -- src/lib.rt:124:17
 sub-carry-out-2 : tie.Need-sub-carry-out-2
@@ -48,7 +48,7 @@ part-carry-out-start-2 c = search needs
 -- src/lib.rt:124:17
 part-carry-out-end-2 : tie.Need-part-carry-out-end-2
 part-carry-out-end-2 c =
-    read-held (c .before .before .before .before .before .before .before .before .before .before .before .before .before .before .before .before .before .before .args .line .now) (c .before .before .before .before .before .before .before .before .before .before .before .before .before .read-line .result) (c .before .before .before .before .before .before .before .before .before .before .before .before .before .read-line .ensures) .supplies
+    omega (arith, read-held (c .before .before .before .before .before .before .before .before .before .before .before .before .before .before .before .before .before .before .args .line .now) (c .before .before .before .before .before .before .before .before .before .before .before .before .before .read-line .result) (c .before .before .before .before .before .before .before .before .before .before .before .before .before .read-line .ensures))
 
 -- src/lib.rt:125:17
 sub-carry-out-3 : tie.Need-sub-carry-out-3
@@ -61,7 +61,7 @@ part-carry-out-start-3 c = search needs
 -- src/lib.rt:125:17
 part-carry-out-end-3 : tie.Need-part-carry-out-end-3
 part-carry-out-end-3 c =
-    read-held (c .before .before .before .before .before .before .before .before .before .before .before .before .before .before .before .before .before .before .before .before .args .line .now) (c .before .before .before .before .before .before .before .before .before .before .before .before .before .before .before .read-line .result) (c .before .before .before .before .before .before .before .before .before .before .before .before .before .before .before .read-line .ensures) .quantities
+    omega (arith, read-held (c .before .before .before .before .before .before .before .before .before .before .before .before .before .before .before .before .before .before .before .before .args .line .now) (c .before .before .before .before .before .before .before .before .before .before .before .before .before .before .before .read-line .result) (c .before .before .before .before .before .before .before .before .before .before .before .before .before .before .before .read-line .ensures))
 
 -- src/lib.rt:126:17
 sub-carry-out-4 : tie.Need-sub-carry-out-4
@@ -74,7 +74,7 @@ part-carry-out-start-4 c = search needs
 -- src/lib.rt:126:17
 part-carry-out-end-4 : tie.Need-part-carry-out-end-4
 part-carry-out-end-4 c =
-    read-held (c .before .before .before .before .before .before .before .before .before .before .before .before .before .before .before .before .before .before .before .before .before .before .args .line .now) (c .before .before .before .before .before .before .before .before .before .before .before .before .before .before .before .before .before .read-line .result) (c .before .before .before .before .before .before .before .before .before .before .before .before .before .before .before .before .before .read-line .ensures) .name
+    omega (arith, read-held (c .before .before .before .before .before .before .before .before .before .before .before .before .before .before .before .before .before .before .before .before .before .before .args .line .now) (c .before .before .before .before .before .before .before .before .before .before .before .before .before .before .before .before .before .read-line .result) (c .before .before .before .before .before .before .before .before .before .before .before .before .before .before .before .before .before .read-line .ensures))
 
 -- src/lib.rt:119:17
 carry-out-requires : tie.Need-carry-out-requires
