@@ -16,7 +16,7 @@ use Rattle.model.specs.RequestLine.{Reading, read, noForm, readLine}
 use Rattle.model.specs.AnswerLine.{leftAfter}
 use Rattle.model.specs.Tally.{afterAll}
 use Rattle.desk.specs.Step.{Stepped}
-use Rattle.desk.specs.Input.{kept, linesIn, lineAfter, leftBy, requestOr, requestsIn, between, Started, CutOff, FedIn}
+use Rattle.desk.specs.Input.{kept, linesIn, lineAfter, leftBy, withRequest, requestsIn, between, Started, CutOff, FedIn}
 
 -- ── two blocks in turn ──
 pub lines-append : (xs ys p : List ℕ) → linesIn p (xs ++ ys) ≡ linesIn p xs ++ linesIn (lineAfter p xs) ys
@@ -49,7 +49,7 @@ unfolding leftBy requestsIn leftAfter
 left-requests s [] = refl
 left-requests s (l ∷ ls) = left-requests (leftAfter s (readLine l)) ls ∙ go (readLine l)
   where
-    go : (x : Reading) → afterAll (leftAfter s x) (requestsIn ls) ≡ afterAll s (requestOr x (requestsIn ls))
+    go : (x : Reading) → afterAll (leftAfter s x) (requestsIn ls) ≡ afterAll s (withRequest x (requestsIn ls))
     go (read r) = refl
     go noForm = refl
 

@@ -12,7 +12,9 @@ use lib.ListN.{length, take, drop, replicate, length-append}
 use lib.Seq.{take-at}
 use borrow.Author.Tests.{eqb-true, le-leb, lt-leb}
 use Rattle.model.specs.declared.Form.{Form}
+use Rattle.model.specs.declared.LastName.{LastName}
 use Rattle.model.specs.declared.Line.{Line}
+use Rattle.model.specs.declared.Lines.{Lines}
 use Rattle.model.specs.declared.OrderStatus.{OrderStatus}
 use Rattle.model.specs.declared.Part.{Part}
 use Rattle.model.specs.declared.ReadAnswer.{ReadAnswer}
@@ -25,14 +27,14 @@ use Rattle.model.specs.Answer.{Answer, committed, refused, requestSays}
 use Rattle.model.specs.Names.{Who, byNumber, byName, whoOf}
 use Rattle.model.specs.Head.{dims}
 use Rattle.model.specs.OrderStatus.{statusFault, statusOrder, linesShown, statusLines}
-use Rattle.model.specs.Request.{Request, newOrder, payment, delivery, orderStatus, stockLevel, Lent, requestOf, linesOf, shownOf, partOf}
+use Rattle.model.specs.Request.{Request, newOrder, payment, delivery, orderStatus, stockLevel, Lent, requestOf, linesOf, nameIn, shownOf, partOf}
 use Rattle.model.specs.RequestLine.{letter, Reading, read, noForm, padTo, itemsOf, suppliesOf, quantitiesOf, selection, nameOfWho, storedLines, storedName, stored, readLine}
 use Rattle.model.specs.AnswerLine.{printed, told, answerLine, noFormLine, printedFor, leftAfter}
 use Rattle.model.proofs.StatusFacts.{StatusUsed, status-ready, last-in}
 use Rattle.engine.specs.Carried.{Carried, lettered}
 use Rattle.answers.specs.Writing.{sample, outcomeLine, hasRoom, withLine, lengthIf}
 use Rattle.answers.proofs.Putting.{room}
-use Rattle.desk.specs.Step.{requestIn, Held, roomy, Stepped}
+use Rattle.desk.specs.Step.{roomy, Stepped}
 
 -- ── what is printed ──
 printed-kind : (r s : Request) (figures : List ℤ) (orders : List ℕ) (shown : List ℤ) → letter r ≡ letter s → printed r figures orders shown ≡ printed s figures orders shown
@@ -111,6 +113,17 @@ shown-most s (orderStatus q who) = status-most (s .nums) (s .names) q who
 shown-most s (stockLevel q) = omega arith
 
 -- ── a reading gives its request back ──
+-- a request as its reading holds it
+abbrev requestIn : Form → Lines → LastName → Request
+requestIn form l n = requestOf form (linesOf (take (l .count) (l .items)) (take (l .count) (l .supplies)) (take (l .count) (l .quantities))) (nameIn n)
+
+-- the arrays have the lines and the name that are in use
+pub record Held (l : Lines) (n : LastName) : Type 0 where
+  pub items : l .count ≤ length (l .items)
+  pub supplies : l .count ≤ length (l .supplies)
+  pub quantities : l .count ≤ length (l .quantities)
+  pub name : n .length ≤ length (n .bytes)
+
 lines-back : (ls : List Line) → linesOf (itemsOf ls) (suppliesOf ls) (quantitiesOf ls) ≡ ls
 unfolding linesOf
 lines-back [] = refl

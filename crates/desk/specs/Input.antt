@@ -30,13 +30,13 @@ leftBy s [] = s
 leftBy s (l ∷ ls) = leftBy (leftAfter s (readLine l)) ls
 
 -- the requests that lines hold: a line without a form holds none
-abbrev pub requestOr : Reading → List Request → List Request
-requestOr (read r) rs = r ∷ rs
-requestOr noForm rs = rs
+abbrev pub withRequest : Reading → List Request → List Request
+withRequest (read r) rs = r ∷ rs
+withRequest noForm rs = rs
 
 unfoldable pub requestsIn : List (List ℕ) → List Request
 requestsIn [] = []
-requestsIn (l ∷ ls) = requestOr (readLine l) (requestsIn ls)
+requestsIn (l ∷ ls) = withRequest (readLine l) (requestsIn ls)
 
 -- the bytes of a block from one place up to another
 abbrev pub between : List ℕ → ℕ → ℕ → List ℕ
