@@ -1,4 +1,5 @@
 use Rattle.desk.proofs.Blocks.{kept-more, kept-full}
+use native.Mathlib.Omega.{arith}
 use borrow.Author.Needs.{needs}
 use Rattle.desk.proofs.keep.Statement.{statement}
 use Rattle.desk.proofs.keep.Tie as tie
@@ -20,7 +21,7 @@ same-length c = search needs
 -- src/lib.rt:182:9
 returns : tie.Need-returns
 returns c =
-    (kept-more _ _ _ (c .if1 .taken) (c .before .pre .0), search needs)
+    (kept-more _ (c .before .args .n) _ (omega arith) (c .before .pre .0), search needs)
 
 -- src/lib.rt:176:1
 returns-2 : tie.Need-returns-2
