@@ -19,7 +19,7 @@ same-length c = search needs
 returns : tie.Need-returns
 unfolding answerOf ordersOf shownOf numsAfter
 returns c =
-    record { kind = refl; says = c .before .new-order-split .ensures .0; orders = refl; within = search needs; shows = refl; leaves = c .before .new-order-split .ensures .1 }
+    record { kind = refl; says = c .before .new-order-split .ensures .says; orders = refl; within = search needs; shows = refl; leaves = c .before .new-order-split .ensures .leaves }
 
 pub new-order-spec : {M : Type 1} → statement M
 new-order-spec = tie.close (tie.spec new-order-split-requires same-length returns)
