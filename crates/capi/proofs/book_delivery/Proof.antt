@@ -1,4 +1,4 @@
-use mathlib.Core.Path.{_∙_, ap, sym}
+use mathlib.Core.Path.{_∙_, ap}
 use Rattle.capi.specs.Flat.{twoOut}
 use borrow.Author.Needs.{needs}
 use Rattle.capi.proofs.book_delivery.Statement.{statement}
@@ -23,7 +23,11 @@ same-length c = search needs
 -- src/lib.rt:89:1
 returns : tie.Need-returns
 returns c =
-    (c .before .delivery-out .ensures ∙ ap twoOut (c .before .before .before .delivery .ensures .0), (c .before .before .before .delivery .ensures .1 .0, c .before .before .before .delivery .ensures .1 .1))
+    record {
+      answers = c .before .delivery-out .ensures ∙ ap twoOut (c .before .before .before .delivery .ensures .says);
+      numbers = c .before .before .before .delivery .ensures .orders;
+      leaves = c .before .before .before .delivery .ensures .leaves;
+    }
 
 pub book-delivery-spec : {M : Type 1} → statement M
 book-delivery-spec =

@@ -1,4 +1,4 @@
-use mathlib.Core.Path.{_∙_, ap, sym}
+use mathlib.Core.Path.{_∙_, ap}
 use Rattle.capi.specs.Flat.{bareOut}
 use borrow.Author.Needs.{needs}
 use Rattle.capi.proofs.book_opening.Statement.{statement}
@@ -19,7 +19,7 @@ opening-out-requires c κs = search needs
 -- src/lib.rt:49:1
 returns : tie.Need-returns
 returns c =
-    c .opening-out .ensures ∙ ap bareOut (c .before .opening .ensures)
+    record { answers = c .opening-out .ensures ∙ ap bareOut (c .before .opening .ensures .says) }
 
 pub book-opening-spec : {M : Type 1} → statement M
 book-opening-spec = tie.close (tie.spec opening-requires opening-out-requires returns)

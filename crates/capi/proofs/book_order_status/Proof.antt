@@ -33,7 +33,12 @@ status-balance-requires c κs = search needs
 -- src/lib.rt:205:1
 returns : tie.Need-returns
 returns c =
-    rw (← c .before .before .before .before .selection .ensures) (ap (λ (l : List ℕ). take 6 l) (c .before .status-out .ensures) ∙ ap (λ (a : Answer). take 6 (statusOut a 0 0)) (c .before .before .before .status-shown .ensures .0), (c .status-balance .ensures ∙ ap balanceOut (c .before .before .before .status-shown .ensures .0), (rw (c .before .status-out .ensures) (c .before .before .before .status-shown .ensures .1 .0), rw (c .before .status-out .ensures) (c .before .before .before .status-shown .ensures .1 .1))))
+    rw (← c .before .before .before .before .selection .ensures) (record {
+      answers = ap (λ (l : List ℕ). take 6 l) (c .before .status-out .ensures) ∙ ap (λ (a : Answer). take 6 (statusOut a 0 0)) (c .before .before .before .status-shown .ensures .says);
+      balances = c .status-balance .ensures ∙ ap balanceOut (c .before .before .before .status-shown .ensures .says);
+      within = rw (c .before .status-out .ensures) (c .before .before .before .status-shown .ensures .within);
+      shows = rw (c .before .status-out .ensures) (c .before .before .before .status-shown .ensures .shows);
+    })
 
 pub book-order-status-spec : {M : Type 1} → statement M
 book-order-status-spec =

@@ -1,4 +1,4 @@
-use mathlib.Core.Path.{_∙_, ap, sym}
+use mathlib.Core.Path.{_∙_, ap}
 use Rattle.capi.specs.Flat.{oneOut, balanceOut}
 use borrow.Author.Needs.{needs}
 use Rattle.capi.proofs.book_payment.Statement.{statement}
@@ -33,7 +33,11 @@ same-length c = search needs
 -- src/lib.rt:42:1
 returns : tie.Need-returns
 returns c =
-    rw (← c .before .before .before .before .before .selection .ensures) (c .before .payment-out .ensures ∙ ap oneOut (c .before .before .before .payment .ensures .0), (c .payment-balance .ensures ∙ ap balanceOut (c .before .before .before .payment .ensures .0), c .before .before .before .payment .ensures .1))
+    rw (← c .before .before .before .before .before .selection .ensures) (record {
+      answers = c .before .payment-out .ensures ∙ ap oneOut (c .before .before .before .payment .ensures .says);
+      balances = c .payment-balance .ensures ∙ ap balanceOut (c .before .before .before .payment .ensures .says);
+      leaves = c .before .before .before .payment .ensures .leaves;
+    })
 
 pub book-payment-spec : {M : Type 1} → statement M
 book-payment-spec =

@@ -18,7 +18,13 @@ read-out-requires c κs = search needs
 -- src/lib.rt:401:1
 returns : tie.Need-returns
 returns c =
-    rw (← c .before .before .before .before .before .before .before .read-line .ensures) (c .before .before .before .before .read-out .ensures, (refl, (refl, (refl, refl))))
+    rw (← c .before .before .before .before .before .before .before .read-line .ensures) (record {
+      answers = c .before .before .before .before .read-out .ensures;
+      items-are = refl;
+      supplies-are = refl;
+      quantities-are = refl;
+      name-is = refl;
+    })
 
 pub book-read-line-spec : {M : Type 1} → statement M
 book-read-line-spec = tie.close (tie.spec read-line-requires read-out-requires returns)

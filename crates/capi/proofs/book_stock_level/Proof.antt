@@ -1,4 +1,4 @@
-use mathlib.Core.Path.{_∙_, ap, sym}
+use mathlib.Core.Path.{_∙_, ap}
 use Rattle.capi.specs.Flat.{oneOut}
 use borrow.Author.Needs.{needs}
 use Rattle.capi.proofs.book_stock_level.Statement.{statement}
@@ -19,7 +19,7 @@ stock-level-out-requires c κs = search needs
 -- src/lib.rt:219:1
 returns : tie.Need-returns
 returns c =
-    c .stock-level-out .ensures ∙ ap oneOut (c .before .stock-level .ensures)
+    record { answers = c .stock-level-out .ensures ∙ ap oneOut (c .before .stock-level .ensures .says) }
 
 pub book-stock-level-spec : {M : Type 1} → statement M
 book-stock-level-spec = tie.close (tie.spec stock-level-requires stock-level-out-requires returns)

@@ -35,7 +35,7 @@ same-length c = search needs
 -- src/lib.rt:438:1
 returns : tie.Need-returns
 returns c =
-    (c .write-out .ensures ∙ ap oneOut (c .before .before .before .write-line .ensures .says), c .before .before .before .write-line .ensures .leaves)
+    record { answers = c .write-out .ensures ∙ ap oneOut (c .before .before .before .write-line .ensures .says); leaves = c .before .before .before .write-line .ensures .leaves }
 
 pub book-write-new-order-spec : {M : Type 1} → statement M
 book-write-new-order-spec =

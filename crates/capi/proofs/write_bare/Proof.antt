@@ -37,7 +37,7 @@ same-length c = search needs
 returns : tie.Need-returns
 unfolding linesOf
 returns c =
-    (c .write-out .ensures ∙ ap oneOut (c .before .before .before .write-line .ensures .says), c .before .before .before .write-line .ensures .leaves)
+    record { answers = c .write-out .ensures ∙ ap oneOut (c .before .before .before .write-line .ensures .says); leaves = c .before .before .before .write-line .ensures .leaves }
 
 pub write-bare-spec : {M : Type 1} → statement M
 write-bare-spec =

@@ -19,7 +19,7 @@ same-length c = search needs
 returns : tie.Need-returns
 unfolding answerOf ordersOf shownOf numsAfter
 returns c =
-    record { kind = refl; says = c .before .before .delivery .ensures .0; orders = c .before .before .delivery .ensures .1 .0; within = search needs; shows = refl; leaves = c .before .before .delivery .ensures .1 .1 }
+    record { kind = refl; says = c .before .before .delivery .ensures .says; orders = c .before .before .delivery .ensures .orders; within = search needs; shows = refl; leaves = c .before .before .delivery .ensures .leaves }
 
 pub delivery-spec : {M : Type 1} → statement M
 delivery-spec = tie.close (tie.spec delivery-requires same-length returns)

@@ -15,7 +15,7 @@ status-shown-requires c κs = search needs
 returns : tie.Need-returns
 unfolding answerOf ordersOf shownOf numsAfter
 returns c =
-    record { kind = refl; says = c .before .status-shown .ensures .0; orders = refl; within = c .before .status-shown .ensures .1 .0; shows = c .before .status-shown .ensures .1 .1; leaves = refl }
+    record { kind = refl; says = c .before .status-shown .ensures .says; orders = refl; within = c .before .status-shown .ensures .within; shows = c .before .status-shown .ensures .shows; leaves = refl }
 
 pub order-status-spec : {M : Type 1} → statement M
 order-status-spec = tie.close (tie.spec status-shown-requires returns)

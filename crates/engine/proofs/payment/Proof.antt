@@ -19,7 +19,7 @@ same-length c = search needs
 returns : tie.Need-returns
 unfolding answerOf ordersOf shownOf numsAfter
 returns c =
-    record { kind = refl; says = c .before .payment .ensures .0; orders = refl; within = search needs; shows = refl; leaves = c .before .payment .ensures .1 }
+    record { kind = refl; says = c .before .payment .ensures .says; orders = refl; within = search needs; shows = refl; leaves = c .before .payment .ensures .leaves }
 
 pub payment-spec : {M : Type 1} → statement M
 payment-spec = tie.close (tie.spec payment-requires same-length returns)

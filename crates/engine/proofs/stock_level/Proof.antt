@@ -15,7 +15,7 @@ stock-level-requires c κs = search needs
 returns : tie.Need-returns
 unfolding answerOf ordersOf shownOf numsAfter
 returns c =
-    record { kind = refl; says = c .stock-level .ensures; orders = refl; within = search needs; shows = refl; leaves = refl }
+    record { kind = refl; says = c .stock-level .ensures .says; orders = refl; within = search needs; shows = refl; leaves = refl }
 
 pub stock-level-spec : {M : Type 1} → statement M
 stock-level-spec = tie.close (tie.spec stock-level-requires returns)
