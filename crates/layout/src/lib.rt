@@ -3,7 +3,7 @@ ghost use Prim.Native.Nat.{_+_, _≤_, _<_, _^_};
 ghost use lib.ListN.{length};
 ghost use Rattle.model.specs.Tests.{every};
 ghost use Rattle.model.specs.Layout.{numbers, shapes, place};
-ghost use Rattle.model.specs.Head.{dims, dimsTests, sizeTests, headOk};
+ghost use Rattle.model.specs.Head.{dims, dimsTests, sizeTests};
 ghost use Rattle.model.specs.Rows.{warehouseRow, districtRow, customerRow, price, stockRow, slot, orderRow, historyRow};
 ghost use Rattle.model.specs.Claim.{R};
 ghost use Rattle.model.proofs.Fields.{Dimensioned};
@@ -29,7 +29,7 @@ fn dims_ok(d: Dims) -> bool
 }
 
 // The five numbers that fix the size.
-pub fn dims_of(b: &[i64]) -> Dims
+fn dims_of(b: &[i64]) -> Dims
     requires { ⌜ 6 ≤ length (now b) ⌝ }
     ensures { λ r. ⌜ r ≡ dims (now (b .entry)) ⌝ }
 {
@@ -143,22 +143,6 @@ pub fn head_of(b: &[i64], names: &[u8]) -> Head
         return Head::Damaged;
     }
     Head::Book(d)
-}
-
-// The head is in its ranges and the two lengths agree with it.
-pub fn head_ok(b: &[i64], names: &[u8]) -> bool
-    ensures { λ r. ⌜ r ≡ headOk (now (b .entry)) (length (now (names .entry))) ⌝ }
-{
-    if b.len() < 6 {
-        return false;
-    }
-    let d = dims_of(b);
-    if dims_ok(d) {
-        let wide = names.len() as u64;
-        sizes_ok(b, wide, d)
-    } else {
-        false
-    }
 }
 
 // Where the row of a warehouse starts.

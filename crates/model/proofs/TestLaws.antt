@@ -58,6 +58,10 @@ within-in x low top e = let h = every-each (leb low x ∷ leb x top ∷ []) e in
 pub in-range : (x top : ℕ) → within x 1 top ≡ true → R top x
 in-range x top e = let h = within-in x 1 top e in record { lo = h .0; hi = h .1 }
 
+-- .. as code tests it
+pub passed-range : (x top : ℕ) {t : Bool} → t ≡ within x 1 top → not t ≡ false → R top x
+passed-range x top {t} e s = in-range x top (sym e ∙ not-false t s)
+
 -- ── a test at each of 1 .. n ──
 module _ (f : ℕ → Bool) where
   pub all-none : allTo 0 f ≡ true

@@ -1,5 +1,4 @@
 -- The modules of the crate's proofs that belong to no one function.
-pub mod Ranges
 pub mod Taking
 pub mod Filling
 pub mod Entering
