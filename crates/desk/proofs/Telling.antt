@@ -26,11 +26,12 @@ use Rattle.model.specs.declared.RequestOutcome.the-variants as RequestCase
 use Rattle.model.specs.Answer.{Answer, committed, refused, requestSays}
 use Rattle.model.specs.Names.{Who, byNumber, byName, whoOf}
 use Rattle.model.specs.Head.{dims}
-use Rattle.model.specs.OrderStatus.{statusFault, statusOrder, linesShown, statusLines}
+use Rattle.model.specs.OrderStatus.{statusFault, statusOrder, linesShown, statusLines, statusCustomer}
 use Rattle.model.specs.Request.{Request, newOrder, payment, delivery, orderStatus, stockLevel, Lent, requestOf, linesOf, nameIn, shownOf, partOf}
 use Rattle.model.specs.RequestLine.{letter, Reading, read, noForm, padTo, itemsOf, suppliesOf, quantitiesOf, selection, nameOfWho, storedLines, storedName, stored, readLine}
 use Rattle.model.specs.AnswerLine.{printed, told, answerLine, noFormLine, printedFor, leftAfter}
-use Rattle.model.proofs.StatusFacts.{StatusUsed, status-ready, last-in}
+use Rattle.model.proofs.StatusFacts.{StatusUsed, status-ready}
+use Rattle.model.proofs.RuleLaws.{last-in}
 use Rattle.engine.specs.Carried.{Carried, lettered}
 use Rattle.answers.specs.Writing.{Answered, sample, outcomeLine, hasRoom, withLine, lengthIf}
 use Rattle.answers.proofs.Putting.{room}
@@ -92,8 +93,8 @@ lines-most : (b : List ℤ) (names : List ℕ) (q : OrderStatus) (who : Who) (o 
 unfolding linesShown statusOrder
 lines-most b names q who zero e u = omega arith
 lines-most b names q who (suc o) e u =
-    let r = last-in (dims b) b (q .warehouse) (q .district) _ o e in
-    let i = u .orders (suc o) r in
+    let h = last-in (dims b) b (q .warehouse) (q .district) (statusCustomer (dims b) names q who) in
+    let i = u .orders (suc o) (record { lo = omega arith; hi = rw e at h }) in
     le-trans (take-most _ _) (mul-le-mul-right 5 (i .count-high))
 
 status-most : (b : List ℤ) (names : List ℕ) (q : OrderStatus) (who : Who) → length (statusLines b names q who) ≤ 75

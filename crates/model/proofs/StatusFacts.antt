@@ -1,11 +1,9 @@
 -- What is known where an Order-Status is not refused: cited by the code's proofs and by the theorem.
 -- Assumes nothing.
-use mathlib.Core.Path.{_≡_, refl, sym, ap, _∙_}
-use mathlib.Core.Bool.{Bool, true, false, cond}
+use mathlib.Core.Path.{_≡_, refl}
+use mathlib.Core.Bool.{true}
 use mathlib.Core.List.{List}
-use Prim.Native.Nat.{ℕ, zero, suc, _-_}
-use native.Mathlib.Omega.{arith}
-use lib.Dec.{eqb}
+use Prim.Native.Nat.{ℕ, _-_}
 use lib.ListN.{length}
 use lib.IntN.{ℤ}
 use Rattle.model.specs.declared.Dims.{Dims}
@@ -15,9 +13,8 @@ use Rattle.model.specs.Layout.{shapes}
 use Rattle.model.specs.Store.{num}
 use Rattle.model.specs.Head.{dims, headOk}
 use Rattle.model.specs.Names.{Who, whoTests}
-use Rattle.model.specs.Lists.{largest}
-use Rattle.model.specs.Rows.{nextOrder, orderCustomer}
-use Rattle.model.specs.OrderStatus.{statusAsked, statusUsed, statusFault, statusCustomer, lastOrder}
+use Rattle.model.specs.Rows.{nextOrder}
+use Rattle.model.specs.OrderStatus.{statusAsked, statusUsed, statusFault, statusCustomer}
 use Rattle.model.specs.Claim.{R}
 use Rattle.model.proofs.TestLaws.{passed, numbered, in-range, staged-clear}
 use Rattle.model.proofs.Fields.{Shaped, head-shaped}
@@ -85,18 +82,3 @@ status-ready b names q who e =
       asked = a;
       used = status-used (dims b) b names q who (a .who-ok) (h .used-none);
     }
-
--- what is largest is one of 1, .., n, and passes
-pub largest-in : (f : ℕ → Bool) (n o : ℕ) → largest f n ≡ suc o → R n (suc o) × (f (suc o) ≡ true)
-unfolding largest
-largest-in f zero o e = absurd (omega arith)
-largest-in f (suc n) o e = go (f (suc n)) refl e (λ q. largest-in f n o q)
-  where
-    go : (t : Bool) → f (suc n) ≡ t → cond t (suc n) (largest f n) ≡ suc o → (largest f n ≡ suc o → R n (suc o) × (f (suc o) ≡ true)) → R (suc n) (suc o) × (f (suc o) ≡ true)
-    go true p e rec = (record { lo = omega arith; hi = omega arith }, ap f (sym e) ∙ p)
-    go false p e rec = let r = rec e in (record { lo = r .0 .lo; hi = omega (arith, r .0 .hi) }, r .1)
-
--- the last order is an order before next
-pub last-in : (d : Dims) (b : List ℤ) (w k c o : ℕ) → lastOrder d b w k c ≡ suc o → R (num (shapes d) b (nextOrder w k) - 1) (suc o)
-unfolding lastOrder
-last-in d b w k c o e = largest-in (λ i. eqb (num (shapes d) b (orderCustomer d w k i)) c) (num (shapes d) b (nextOrder w k) - 1) o e .0

@@ -19,41 +19,32 @@ Inv-loop line₀ at shown p₀ i₀ line p i = (i ≤ length shown) × ((length 
 abbrev μ-loop : tie.MeasureT-loop
 μ-loop line₀ at shown p₀ i₀ line p i = length shown - i
 
--- src/lib.rt:108:5
 loop-holds : tie.Need-loop-holds Inv-loop μ-loop
 loop-holds c =
     (search needs, (search needs, (search needs, no-field (c .before .args .line .now) (c .before .args .at))))
 
--- src/lib.rt:109:30
 mul-put-signed : tie.Need-mul-put-signed Inv-loop μ-loop
 mul-put-signed c = search needs
 
--- src/lib.rt:109:30
 shared-slice-copy-out-put-signed : tie.Need-shared-slice-copy-out-put-signed Inv-loop μ-loop
 shared-slice-copy-out-put-signed c = search needs
 
--- src/lib.rt:109:9
 put-signed-requires : tie.Need-put-signed-requires Inv-loop μ-loop
 put-signed-requires c κs = search needs
 
--- src/lib.rt:110:9
 add-i : tie.Need-add-i Inv-loop μ-loop
 add-i c = search needs
 
--- src/lib.rt:108:5
 loop-less : tie.Need-loop-less Inv-loop μ-loop
 loop-less c = search needs
 
--- src/lib.rt:108:5
 loop-again : tie.Need-loop-again Inv-loop μ-loop
 loop-again c =
     (search needs, (search needs, (omega (arith, c .before .before .put-signed .ensures .1, c .before .before .before .before .before .before .loop .inv .1 .1 .0), number-step _ _ _ _ (c .before .before .before .before .before .before .loop .i) _ _ _ (c .before .before .before .before .before .loop-test .taken) (c .before .before .before .before .before .before .loop .inv .1 .1 .1) (rw (held (c .before .before .before .put-signed-arg2 .given)) at (c .before .before .put-signed .ensures .0)))))
 
--- src/lib.rt:102:1
 same-length : tie.Need-same-length Inv-loop μ-loop
 same-length c = search needs
 
--- src/lib.rt:102:1
 returns : tie.Need-returns Inv-loop μ-loop
 returns c =
     (number-all _ _ _ _ (c .before .loop .i) _ (c .loop-test .left) (c .before .loop .inv .1 .1 .1), omega (arith, c .before .loop .inv .0, c .before .loop .inv .1 .1 .0))

@@ -8,37 +8,29 @@ use Rattle.answers.proofs.tell_new_order.Lts as lts
 use Rattle.text.proofs.three_line.Reads as three-line-reads
 use Rattle.answers.proofs.two_line.Reads as two-line-reads
 
--- src/lib.rt:181:36
 enum-known-o : tie.Need-enum-known-o
 enum-known-o c = search needs
 
--- src/lib.rt:181:42
 three-line-requires : tie.Need-three-line-requires
 three-line-requires c κs = search needs
 
--- src/lib.rt:182:34
 enum-known-o-2 : tie.Need-enum-known-o-2
 enum-known-o-2 c = search needs
 
--- src/lib.rt:182:40
 two-line-requires : tie.Need-two-line-requires
 two-line-requires c κs = search needs
 
--- src/lib.rt:176:1
 same-length : tie.Need-same-length
 same-length c = search needs
 
--- src/lib.rt:176:1
 returns : tie.Need-returns
 unfolding outcomeLine
 returns c =
     (rw (c .before .before .before .before .before .o .given .1) (c .before .before .three-line .ensures .0), omega (arith, c .before .before .three-line .ensures .1))
 
--- src/lib.rt:176:1
 same-length-2 : tie.Need-same-length-2
 same-length-2 c = search needs
 
--- src/lib.rt:176:1
 returns-2 : tie.Need-returns-2
 unfolding outcomeLine
 returns-2 c =

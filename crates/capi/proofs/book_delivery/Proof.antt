@@ -8,19 +8,15 @@ use Rattle.capi.proofs.book_delivery.Lts as lts
 use Rattle.capi.proofs.delivery_out.Reads as delivery-out-reads
 use Rattle.delivery.proofs.delivery.Reads as delivery-reads
 
--- src/lib.rt:106:9
 delivery-requires : tie.Need-delivery-requires
 delivery-requires c κs = search needs
 
--- src/lib.rt:108:12
 delivery-out-requires : tie.Need-delivery-out-requires
 delivery-out-requires c κs = search needs
 
--- src/lib.rt:89:1
 same-length : tie.Need-same-length
 same-length c = search needs
 
--- src/lib.rt:89:1
 returns : tie.Need-returns
 returns c =
     record {

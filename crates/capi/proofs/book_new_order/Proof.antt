@@ -48,7 +48,7 @@ use Rattle.model.proofs.NewOrder as Q
 use Rattle.model.proofs.NewOrder.Laws as Q′
 use Rattle.model.proofs.NewOrderAnswer as R
 use Rattle.model.proofs.NewOrderAnswer.Laws as R′
-use Rattle.new_order.specs.Ordered as ordered
+use Rattle.model.specs.Contracts.{NewOrderCall}
 use Rattle.new_order.proofs.new_order as new-order
 use Rattle.new_order.proofs.new_order.Symbol as new-order-def
 use Rattle.new_order.proofs.new_order.Symbol.{name as #new_order·new-order}
@@ -165,7 +165,7 @@ module _ {M : Type 1} (𝓤 : URA M) (H : Heap 𝓤) (A : Atoms 𝓤) (W : Given
 
   -- what `new_order` ensures, at its last list, and what is to be said
   abbrev Said : NewOrderAnswer → List ℤ → Type 0
-  Said m ns = ordered.Ordered (x .now) (y .now) order (s .now) m ns
+  Said m ns = NewOrderCall (x .now) (y .now) order (s .now) m ns
 
   abbrev Says : List ℤ → List ℕ → Type 0
   Says ns os = NewOrderC (x .now) (y .now) order (s .now) os ns

@@ -8,15 +8,12 @@ use Rattle.capi.proofs.book_opening.Lts as lts
 use Rattle.capi.proofs.opening_out.Reads as opening-out-reads
 use Rattle.opening.proofs.opening.Reads as opening-reads
 
--- src/lib.rt:53:9
 opening-requires : tie.Need-opening-requires
 opening-requires c κs = search needs
 
--- src/lib.rt:55:12
 opening-out-requires : tie.Need-opening-out-requires
 opening-out-requires c κs = search needs
 
--- src/lib.rt:49:1
 returns : tie.Need-returns
 returns c =
     record { answers = c .opening-out .ensures ∙ ap bareOut (c .before .opening .ensures .says) }

@@ -14,23 +14,18 @@ use Rattle.capi.proofs.status_balance.Reads as status-balance-reads
 use Rattle.capi.proofs.status_out.Reads as status-out-reads
 use Rattle.order_status.proofs.status_shown.Reads as status-shown-reads
 
--- src/lib.rt:223:9
 selection-requires : tie.Need-selection-requires
 selection-requires c κs = search needs
 
--- src/lib.rt:224:9
 status-shown-requires : tie.Need-status-shown-requires
 status-shown-requires c κs = search needs
 
--- src/lib.rt:227:12
 status-out-requires : tie.Need-status-out-requires
 status-out-requires c κs = search needs
 
--- src/lib.rt:228:16
 status-balance-requires : tie.Need-status-balance-requires
 status-balance-requires c κs = search needs
 
--- src/lib.rt:205:1
 returns : tie.Need-returns
 returns c =
     rw (← c .before .before .before .before .selection .ensures) (record {

@@ -8,15 +8,12 @@ use Rattle.capi.proofs.book_stock_level.Lts as lts
 use Rattle.capi.proofs.stock_level_out.Reads as stock-level-out-reads
 use Rattle.stock_level.proofs.stock_level.Reads as stock-level-reads
 
--- src/lib.rt:235:9
 stock-level-requires : tie.Need-stock-level-requires
 stock-level-requires c κs = search needs
 
--- src/lib.rt:237:12
 stock-level-out-requires : tie.Need-stock-level-out-requires
 stock-level-out-requires c κs = search needs
 
--- src/lib.rt:219:1
 returns : tie.Need-returns
 returns c =
     record { answers = c .stock-level-out .ensures ∙ ap oneOut (c .before .stock-level .ensures .says) }

@@ -21,84 +21,65 @@ Inv-loop b₀ names line₀ len block out₀ n₀ at₀ b line out n at = (lengt
 abbrev μ-loop : tie.MeasureT-loop
 μ-loop b₀ names line₀ len block out₀ n₀ at₀ b line out n at = length block - at
 
--- src/lib.rt:202:5
 loop-holds : tie.Need-loop-holds Inv-loop μ-loop
 loop-holds c =
     (search needs, (search needs, none-fed _ _ _ _ ((c .before .before .before .pre))))
 
--- src/lib.rt:203:13
 cut-requires : tie.Need-cut-requires Inv-loop μ-loop
 cut-requires c κs = search needs
 
--- src/lib.rt:207:13
 same-length : tie.Need-same-length Inv-loop μ-loop
 same-length c = search needs
 
--- src/lib.rt:207:13
 same-length-2 : tie.Need-same-length-2 Inv-loop μ-loop
 same-length-2 c = search needs
 
--- src/lib.rt:207:13
 returns : tie.Need-returns Inv-loop μ-loop
 returns c =
     block-fed _ _ _ _ _ _ _ _ _ _ _ (c .before .before .before .before .before .before .loop .inv .1 .1) (c .before .before .before .before .cut .ensures) (not-true (c .before .before .before .before .cut .result .ended) (c .if1 .taken))
 
--- src/lib.rt:213:32
 sub-step : tie.Need-sub-step Inv-loop μ-loop
 sub-step c = search needs
 
--- src/lib.rt:213:32
 part-step-start : tie.Need-part-step-start Inv-loop μ-loop
 part-step-start c = search needs
 
--- src/lib.rt:213:32
 part-step-end : tie.Need-part-step-end Inv-loop μ-loop
 part-step-end c = search needs
 
--- src/lib.rt:213:45
 slice-aggregate-step : tie.Need-slice-aggregate-step Inv-loop μ-loop
 slice-aggregate-step c = search needs
 
--- src/lib.rt:213:13
 step-requires : tie.Need-step-requires Inv-loop μ-loop
 step-requires c κs = search needs
 
--- src/lib.rt:215:42
 sub-write-all : tie.Need-sub-write-all Inv-loop μ-loop
 sub-write-all c = search needs
 
--- src/lib.rt:215:42
 part-write-all-start : tie.Need-part-write-all-start Inv-loop μ-loop
 part-write-all-start c = search needs
 
--- src/lib.rt:215:42
 part-write-all-end : tie.Need-part-write-all-end Inv-loop μ-loop
 part-write-all-end c =
     written-part _ _ _ _ _ _ (c .before .before .before .step .ensures)
 
--- src/lib.rt:215:13
 write-all-requires : tie.Need-write-all-requires Inv-loop μ-loop
 write-all-requires c κs = search needs
 
--- src/lib.rt:216:13
 same-length-3 : tie.Need-same-length-3 Inv-loop μ-loop
 same-length-3 c = search needs
 
--- src/lib.rt:216:13
 same-length-4 : tie.Need-same-length-4 Inv-loop μ-loop
 same-length-4 c = search needs
 
--- src/lib.rt:216:13
 returns-2 : tie.Need-returns-2 Inv-loop μ-loop
 returns-2 c =
     closed-fed _ _ _ _ _ _ _ (line-fed _ _ _ _ _ _ _ _ _ _ _ (c .before .before .before .before .before .before .before .before .before .before .before .before .before .before .before .before .before .loop .inv .1 .1) (c .before .before .before .before .before .before .before .before .before .before .before .before .before .before .before .cut .ensures) _ (not-false (c .before .before .before .before .before .before .before .before .before .before .before .before .before .before .before .cut .result .ended) (c .before .before .before .before .before .before .before .before .before .before .before .if1 .left)) (left-line _ _ _ (c .before .before .before .before .before .before .before .before .before .before .before .before .before .before .before .cut .last .0) _ _ (c .before .before .before .before .before .before .before .before .before .before .before .before .before .before .before .cut .result .len) _ (c .before .before .before .before .before .before .before .before .before .before .before .before .before .before .before .before .before .loop .inv .1 .0) (c .before .before .before .before .before .before .step .ensures)) (search needs))
 
--- src/lib.rt:202:5
 loop-less : tie.Need-loop-less Inv-loop μ-loop
 loop-less c =
     let h = rw (not-false (c .before .before .before .before .before .before .before .before .before .before .before .before .before .before .before .cut .result .ended) (c .before .before .before .before .before .before .before .before .before .before .before .if1 .left)) at (c .before .before .before .before .before .before .before .before .before .before .before .before .before .before .before .cut .ensures .onward) in omega (arith, h, c .before .before .before .before .before .before .before .before .before .before .before .before .before .before .before .cut .ensures .place)
 
--- src/lib.rt:202:5
 loop-again : tie.Need-loop-again Inv-loop μ-loop
 loop-again c =
     (search needs, (search needs, line-fed _ _ _ _ _ _ _ _ _ _ _ (c .before .before .before .before .before .before .before .before .before .before .before .before .before .before .before .before .before .loop .inv .1 .1) (c .before .before .before .before .before .before .before .before .before .before .before .before .before .before .before .cut .ensures) _ (not-false (c .before .before .before .before .before .before .before .before .before .before .before .before .before .before .before .cut .result .ended) (c .before .before .before .before .before .before .before .before .before .before .before .if1 .left)) (left-line _ _ _ (c .before .before .before .before .before .before .before .before .before .before .before .before .before .before .before .cut .last .0) _ _ (c .before .before .before .before .before .before .before .before .before .before .before .before .before .before .before .cut .result .len) _ (c .before .before .before .before .before .before .before .before .before .before .before .before .before .before .before .before .before .loop .inv .1 .0) (c .before .before .before .before .before .before .step .ensures)) (search needs)))

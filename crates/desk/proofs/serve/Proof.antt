@@ -19,125 +19,95 @@ Inv-loop b₀ names block₀ line₀ len₀ turns₀ b block line len turns = (l
 abbrev μ-loop : tie.MeasureT-loop
 μ-loop b₀ names block₀ line₀ len₀ turns₀ b block line len turns = turns
 
--- src/lib.rt:231:5
 loop-holds : tie.Need-loop-holds Inv-loop μ-loop
 loop-holds c = search needs
 
--- src/lib.rt:232:44
 slice-aggregate-read : tie.Need-slice-aggregate-read Inv-loop μ-loop
 slice-aggregate-read c = search needs
 
--- src/lib.rt:232:13
 read-requires : tie.Need-read-requires Inv-loop μ-loop
 read-requires c κs = search needs
 
--- src/lib.rt:233:32
 slice-aggregate-count : tie.Need-slice-aggregate-count Inv-loop μ-loop
 slice-aggregate-count c = search needs
 
--- src/lib.rt:233:13
 count-requires : tie.Need-count-requires Inv-loop μ-loop
 count-requires c κs = search needs
 
--- src/lib.rt:237:40
 sub-step : tie.Need-sub-step Inv-loop μ-loop
 sub-step c = search needs
 
--- src/lib.rt:237:40
 part-step-start : tie.Need-part-step-start Inv-loop μ-loop
 part-step-start c = search needs
 
--- src/lib.rt:237:40
 part-step-end : tie.Need-part-step-end Inv-loop μ-loop
 part-step-end c = search needs
 
--- src/lib.rt:237:55
 slice-aggregate-step : tie.Need-slice-aggregate-step Inv-loop μ-loop
 slice-aggregate-step c = search needs
 
--- src/lib.rt:237:21
 step-requires : tie.Need-step-requires Inv-loop μ-loop
 step-requires c κs = search needs
 
--- src/lib.rt:238:46
 sub-write-all : tie.Need-sub-write-all Inv-loop μ-loop
 sub-write-all c = search needs
 
--- src/lib.rt:238:46
 part-write-all-start : tie.Need-part-write-all-start Inv-loop μ-loop
 part-write-all-start c = search needs
 
--- src/lib.rt:238:46
 part-write-all-end : tie.Need-part-write-all-end Inv-loop μ-loop
 part-write-all-end c =
     written-part _ _ _ _ _ _ (c .before .before .before .step .ensures)
 
--- src/lib.rt:238:17
 write-all-requires : tie.Need-write-all-requires Inv-loop μ-loop
 write-all-requires c κs = search needs
 
--- src/lib.rt:240:13
 same-length : tie.Need-same-length Inv-loop μ-loop
 same-length c = search needs
 
--- src/lib.rt:240:13
 returns : tie.Need-returns Inv-loop μ-loop
 returns c = search needs
 
--- src/lib.rt:240:13
 same-length-2 : tie.Need-same-length-2 Inv-loop μ-loop
 same-length-2 c = search needs
 
--- src/lib.rt:240:13
 returns-2 : tie.Need-returns-2 Inv-loop μ-loop
 returns-2 c = search needs
 
--- src/lib.rt:242:34
 slice-aggregate-feed : tie.Need-slice-aggregate-feed Inv-loop μ-loop
 slice-aggregate-feed c = search needs
 
--- src/lib.rt:242:50
 sub-feed : tie.Need-sub-feed Inv-loop μ-loop
 sub-feed c = search needs
 
--- src/lib.rt:242:50
 part-feed-start : tie.Need-part-feed-start Inv-loop μ-loop
 part-feed-start c = search needs
 
--- src/lib.rt:242:50
 part-feed-end : tie.Need-part-feed-end Inv-loop μ-loop
 part-feed-end c = search needs
 
--- src/lib.rt:242:13
 feed-requires : tie.Need-feed-requires Inv-loop μ-loop
 feed-requires c κs = search needs
 
--- src/lib.rt:246:13
 same-length-3 : tie.Need-same-length-3 Inv-loop μ-loop
 same-length-3 c = search needs
 
--- src/lib.rt:246:13
 returns-3 : tie.Need-returns-3 Inv-loop μ-loop
 returns-3 c = search needs
 
--- src/lib.rt:248:9
 sub-turns : tie.Need-sub-turns Inv-loop μ-loop
 sub-turns c = search needs
 
--- src/lib.rt:231:5
 loop-less : tie.Need-loop-less Inv-loop μ-loop
 loop-less c = search needs
 
--- src/lib.rt:231:5
 loop-again : tie.Need-loop-again Inv-loop μ-loop
 loop-again c =
     (search needs, (search needs, (search needs, c .before .before .before .feed .ensures .short)))
 
--- src/lib.rt:226:1
 same-length-4 : tie.Need-same-length-4 Inv-loop μ-loop
 same-length-4 c = search needs
 
--- src/lib.rt:226:1
 returns-4 : tie.Need-returns-4 Inv-loop μ-loop
 returns-4 c = search needs
 

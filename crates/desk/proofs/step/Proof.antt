@@ -11,127 +11,98 @@ use Rattle.answers.proofs.write_no_form.Reads as write-no-form-reads
 use Rattle.engine.proofs.carry_out.Reads as carry-out-reads
 use Rattle.lines.proofs.read_line.Reads as read-line-reads
 
--- src/lib.rt:105:9
 returns : tie.Need-returns
 returns c =
     stepped-nothing _ _ _ (c .if1 .taken)
 
--- src/lib.rt:107:9
 read-line-requires : tie.Need-read-line-requires
 read-line-requires c κs = search needs
 
--- src/lib.rt:110:30
 enum-known-o : tie.Need-enum-known-o
 enum-known-o c = search needs
 
--- src/lib.rt:123:17
 sub-carry-out : tie.Need-sub-carry-out
 sub-carry-out c = search needs
 
--- src/lib.rt:123:17
 part-carry-out-start : tie.Need-part-carry-out-start
 part-carry-out-start c = search needs
 
--- src/lib.rt:123:17
 part-carry-out-end : tie.Need-part-carry-out-end
 part-carry-out-end c =
     omega (arith, read-held (c .before .before .before .before .before .before .before .before .before .before .before .before .before .before .before .before .args .line .now) (c .before .before .before .before .before .before .before .before .before .before .before .read-line .result) (c .before .before .before .before .before .before .before .before .before .before .before .read-line .ensures))
 
--- src/lib.rt:124:17
 sub-carry-out-2 : tie.Need-sub-carry-out-2
 sub-carry-out-2 c = search needs
 
--- src/lib.rt:124:17
 part-carry-out-start-2 : tie.Need-part-carry-out-start-2
 part-carry-out-start-2 c = search needs
 
--- src/lib.rt:124:17
 part-carry-out-end-2 : tie.Need-part-carry-out-end-2
 part-carry-out-end-2 c =
     omega (arith, read-held (c .before .before .before .before .before .before .before .before .before .before .before .before .before .before .before .before .before .before .args .line .now) (c .before .before .before .before .before .before .before .before .before .before .before .before .before .read-line .result) (c .before .before .before .before .before .before .before .before .before .before .before .before .before .read-line .ensures))
 
--- src/lib.rt:125:17
 sub-carry-out-3 : tie.Need-sub-carry-out-3
 sub-carry-out-3 c = search needs
 
--- src/lib.rt:125:17
 part-carry-out-start-3 : tie.Need-part-carry-out-start-3
 part-carry-out-start-3 c = search needs
 
--- src/lib.rt:125:17
 part-carry-out-end-3 : tie.Need-part-carry-out-end-3
 part-carry-out-end-3 c =
     omega (arith, read-held (c .before .before .before .before .before .before .before .before .before .before .before .before .before .before .before .before .before .before .before .before .args .line .now) (c .before .before .before .before .before .before .before .before .before .before .before .before .before .before .before .read-line .result) (c .before .before .before .before .before .before .before .before .before .before .before .before .before .before .before .read-line .ensures))
 
--- src/lib.rt:126:17
 sub-carry-out-4 : tie.Need-sub-carry-out-4
 sub-carry-out-4 c = search needs
 
--- src/lib.rt:126:17
 part-carry-out-start-4 : tie.Need-part-carry-out-start-4
 part-carry-out-start-4 c = search needs
 
--- src/lib.rt:126:17
 part-carry-out-end-4 : tie.Need-part-carry-out-end-4
 part-carry-out-end-4 c =
     omega (arith, read-held (c .before .before .before .before .before .before .before .before .before .before .before .before .before .before .before .before .before .before .before .before .before .before .args .line .now) (c .before .before .before .before .before .before .before .before .before .before .before .before .before .before .before .before .before .read-line .result) (c .before .before .before .before .before .before .before .before .before .before .before .before .before .before .before .before .before .read-line .ensures))
 
--- src/lib.rt:119:17
 carry-out-requires : tie.Need-carry-out-requires
 carry-out-requires c κs = search needs
 
--- src/lib.rt:132:23
 add-to : tie.Need-add-to
 add-to c =
     omega (arith, c .before .before .before .before .carry-out .ensures .within, c .before .before .before .before .before .before .before .before .before .before .before .before .before .before .before .before .before .before .before .before .before .before .before .before .before .before .before .before .good .0, c .before .before .before .before .carry-out .kept .0)
 
--- src/lib.rt:133:54
 mul-write-answer : tie.Need-mul-write-answer
 mul-write-answer c =
     omega (arith, c .before .before .before .before .before .carry-out .ensures .within, c .before .before .before .before .before .before .before .before .before .before .before .before .before .before .before .before .before .before .before .before .before .before .before .before .before .before .before .before .before .good .0, c .before .before .before .before .before .carry-out .kept .0)
 
--- src/lib.rt:133:54
 sub-write-answer : tie.Need-sub-write-answer
 sub-write-answer c = search needs
 
--- src/lib.rt:133:54
 part-write-answer-start : tie.Need-part-write-answer-start
 part-write-answer-start c = search needs
 
--- src/lib.rt:133:54
 part-write-answer-end : tie.Need-part-write-answer-end
 part-write-answer-end c = search needs
 
--- src/lib.rt:133:13
 write-answer-requires : tie.Need-write-answer-requires
 write-answer-requires c κs = search needs
 
--- src/lib.rt:135:59
 enum-told : tie.Need-enum-told
 enum-told c = search needs
 
--- src/lib.rt:135:36
 write-no-form-requires : tie.Need-write-no-form-requires
 write-no-form-requires c κs = search needs
 
--- src/lib.rt:98:1
 same-length : tie.Need-same-length
 same-length c = search needs
 
--- src/lib.rt:98:1
 same-length-2 : tie.Need-same-length-2
 same-length-2 c = search needs
 
--- src/lib.rt:98:1
 returns-2 : tie.Need-returns-2
 returns-2 c =
     stepped-read _ _ _ _ _ _ (c .before .before .before .before .before .before .before .before .before .before .before .before .before .before .before .before .before .before .before .before .before .before .before .before .before .before .before .before .before .before .if1 .left) (c .before .before .before .before .before .before .before .before .before .before .before .before .before .before .before .before .before .before .before .before .before .before .before .before .before .before .before .before .before .read-line .result) _ (c .before .before .before .before .before .before .before .before .before .before .before .before .before .before .before .before .before .before .before .before .before .before .before .before .before .before .before .before .before .read-line .ensures) (c .before .before .before .before .before .before .before .before .before .before .before .before .before .before .before .before .before .before .before .before .before .before .before .before .before .before .before .o .given .1) (c .before .before .before .before .before .before .before .before .before .before .carry-out .result) (c .before .before .before .before .before .before .before .before .before .before .carry-out .ensures) (c .before .before .write-answer .ensures)
 
--- src/lib.rt:98:1
 same-length-3 : tie.Need-same-length-3
 same-length-3 c = search needs
 
--- src/lib.rt:98:1
 returns-3 : tie.Need-returns-3
 returns-3 c =
     stepped-none _ _ _ _ _ _ (c .before .before .before .before .before .before .before .if1 .left) (c .before .before .before .before .before .before .read-line .result) _ (c .before .before .before .before .before .before .read-line .ensures) (c .before .before .before .before .enum-told .given .1) refl (c .before .before .write-no-form .ensures)

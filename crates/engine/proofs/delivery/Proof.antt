@@ -7,15 +7,12 @@ use Rattle.engine.proofs.delivery.Reads as reads
 use Rattle.engine.proofs.delivery.Lts as lts
 use Rattle.delivery.proofs.delivery.Reads as delivery-reads
 
--- src/lib.rt:66:9
 delivery-requires : tie.Need-delivery-requires
 delivery-requires c κs = search needs
 
--- src/lib.rt:63:1
 same-length : tie.Need-same-length
 same-length c = search needs
 
--- src/lib.rt:63:1
 returns : tie.Need-returns
 unfolding answerOf ordersOf shownOf numsAfter
 returns c =

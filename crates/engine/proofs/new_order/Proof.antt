@@ -7,15 +7,12 @@ use Rattle.engine.proofs.new_order.Reads as reads
 use Rattle.engine.proofs.new_order.Lts as lts
 use Rattle.new_order.proofs.new_order_split.Reads as new-order-split-reads
 
--- src/lib.rt:28:9
 new-order-split-requires : tie.Need-new-order-split-requires
 new-order-split-requires c κs = search needs
 
--- src/lib.rt:18:1
 same-length : tie.Need-same-length
 same-length c = search needs
 
--- src/lib.rt:18:1
 returns : tie.Need-returns
 unfolding answerOf ordersOf shownOf numsAfter
 returns c =

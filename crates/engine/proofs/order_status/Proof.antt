@@ -7,11 +7,9 @@ use Rattle.engine.proofs.order_status.Reads as reads
 use Rattle.engine.proofs.order_status.Lts as lts
 use Rattle.order_status.proofs.status_shown.Reads as status-shown-reads
 
--- src/lib.rt:88:9
 status-shown-requires : tie.Need-status-shown-requires
 status-shown-requires c κs = search needs
 
--- src/lib.rt:79:1
 returns : tie.Need-returns
 unfolding answerOf ordersOf shownOf numsAfter
 returns c =

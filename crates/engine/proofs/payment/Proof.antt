@@ -7,15 +7,12 @@ use Rattle.engine.proofs.payment.Reads as reads
 use Rattle.engine.proofs.payment.Lts as lts
 use Rattle.payment.proofs.payment.Reads as payment-reads
 
--- src/lib.rt:50:9
 payment-requires : tie.Need-payment-requires
 payment-requires c κs = search needs
 
--- src/lib.rt:41:1
 same-length : tie.Need-same-length
 same-length c = search needs
 
--- src/lib.rt:41:1
 returns : tie.Need-returns
 unfolding answerOf ordersOf shownOf numsAfter
 returns c =

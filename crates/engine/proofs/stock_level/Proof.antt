@@ -7,11 +7,9 @@ use Rattle.engine.proofs.stock_level.Reads as reads
 use Rattle.engine.proofs.stock_level.Lts as lts
 use Rattle.stock_level.proofs.stock_level.Reads as stock-level-reads
 
--- src/lib.rt:103:9
 stock-level-requires : tie.Need-stock-level-requires
 stock-level-requires c κs = search needs
 
--- src/lib.rt:100:1
 returns : tie.Need-returns
 unfolding answerOf ordersOf shownOf numsAfter
 returns c =

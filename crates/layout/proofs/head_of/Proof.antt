@@ -16,38 +16,31 @@ use Rattle.layout.proofs.dims_of.Reads as dims-of-reads
 use Rattle.layout.proofs.dims_ok.Reads as dims-ok-reads
 use Rattle.layout.proofs.sizes_ok.Reads as sizes-ok-reads
 
--- src/lib.rt:135:9
 returns : tie.Need-returns
 unfolding headOk
 returns c =
     simp (lt-leb _ _ (c .if1 .taken))
 
--- src/lib.rt:137:9
 dims-of-requires : tie.Need-dims-of-requires
 dims-of-requires c κs = search needs
 
--- src/lib.rt:138:9
 dims-ok-requires : tie.Need-dims-ok-requires
 dims-ok-requires c κs = search needs
 
--- src/lib.rt:139:9
 returns-2 : tie.Need-returns-2
 unfolding headOk
 returns-2 c =
     simp (le-leb _ _ (c .before .before .before .if1 .left), ← c .before .before .dims-of .ensures, ← c .before .dims-ok .ensures, not-true (c .before .dims-ok .result) (c .if2 .taken))
 
--- src/lib.rt:142:9
 sizes-ok-requires : tie.Need-sizes-ok-requires
 sizes-ok-requires c κs =
     (search needs, dims-are _ (sym (c .before .dims-ok .ensures) ∙ not-false (c .before .dims-ok .result) (c .if2 .left)))
 
--- src/lib.rt:143:9
 returns-3 : tie.Need-returns-3
 unfolding headOk
 returns-3 c =
     simp (le-leb _ _ (c .before .before .before .before .before .if1 .left), ← c .before .before .before .before .dims-of .ensures, ← c .before .before .before .dims-ok .ensures, not-false (c .before .before .before .dims-ok .result) (c .before .before .if2 .left), ← c .before .sizes-ok .ensures, not-true (c .before .sizes-ok .result) (c .if3 .taken))
 
--- src/lib.rt:131:1
 returns-4 : tie.Need-returns-4
 unfolding headOk
 returns-4 c =

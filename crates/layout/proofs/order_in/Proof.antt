@@ -6,19 +6,16 @@ use Rattle.layout.proofs.order_in.Tie as tie
 use Rattle.layout.proofs.order_in.Reads as reads
 use Rattle.layout.proofs.order_in.Lts as lts
 
--- src/lib.rt:251:14
 mul-result : tie.Need-mul-result
 unfolding rowIn
 mul-result c =
     omega arith
 
--- src/lib.rt:251:5
 add-result : tie.Need-add-result
 unfolding rowIn
 add-result c =
     omega arith
 
--- src/lib.rt:247:1
 returns : tie.Need-returns
 unfolding rowIn
 returns c =

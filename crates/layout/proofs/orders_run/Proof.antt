@@ -12,11 +12,9 @@ use Rattle.layout.proofs.orders_run.Reads as reads
 use Rattle.layout.proofs.orders_run.Lts as lts
 use Rattle.layout.proofs.order_at.Reads as order-at-reads
 
--- src/lib.rt:235:9
 order-at-requires : tie.Need-order-at-requires
 order-at-requires c κs = search needs
 
--- src/lib.rt:231:1
 returns : tie.Need-returns
 unfolding rowIn
 returns c =

@@ -7,7 +7,6 @@ use Rattle.layout.proofs.section_run.Tie as tie
 use Rattle.layout.proofs.section_run.Reads as reads
 use Rattle.layout.proofs.section_run.Lts as lts
 
--- src/lib.rt:240:1
 returns : tie.Need-returns
 unfolding rowIn
 returns c =

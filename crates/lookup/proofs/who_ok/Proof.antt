@@ -6,24 +6,19 @@ use Rattle.lookup.proofs.who_ok.Reads as reads
 use Rattle.lookup.proofs.who_ok.Lts as lts
 use Rattle.cells.proofs.within.Reads as within-reads
 
--- src/lib.rt:255:27
 enum-known-who : tie.Need-enum-known-who
 enum-known-who c = search needs
 
--- src/lib.rt:255:33
 within-requires : tie.Need-within-requires
 within-requires c κs = search needs
 
--- src/lib.rt:256:32
 enum-told : tie.Need-enum-told
 enum-told c = search needs
 
--- src/lib.rt:251:1
 returns : tie.Need-returns
 returns c =
     rw (c .before .before .who .given .1) (c .within .ensures)
 
--- src/lib.rt:251:1
 returns-2 : tie.Need-returns-2
 returns-2 c =
     rw (c .enum-told .given .1)

@@ -17,47 +17,37 @@ use Rattle.layout.proofs.head_of.Reads as head-of-reads
 use Rattle.opening.proofs.book_new.Reads as book-new-reads
 use Rattle.opening.proofs.turned_away.Reads as turned-away-reads
 
--- src/lib.rt:207:25
 head-of-requires : tie.Need-head-of-requires
 head-of-requires c κs = search needs
 
--- src/lib.rt:207:20
 enum-known-d : tie.Need-enum-known-d
 enum-known-d c = search needs
 
--- src/lib.rt:208:28
 enum-told : tie.Need-enum-told
 enum-told c = search needs
 
--- src/lib.rt:208:28
 refused-requires : tie.Need-refused-requires
 refused-requires c κs = search needs
 
--- src/lib.rt:208:9
 turned-away-requires : tie.Need-turned-away-requires
 turned-away-requires c κs = search needs
 
--- src/lib.rt:208:9
 returns : tie.Need-returns
 unfolding openingAnswer openingFault
 returns c =
     let h : headOk (c .before .before .before .before .before .before .args .b .now) (length (c .before .before .before .before .before .before .args .names .now)) ≡ false = head-damaged (c .before .before .before .before .before .before .args .b .now) (length (c .before .before .before .before .before .before .args .names .now)) (c .before .before .before .before .head-of .ensures) (c .before .before .enum-told .given .1) in
     record { says = c .turned-away .ensures ∙ ap refused (c .before .refused .ensures) ∙ rw h }
 
--- src/lib.rt:210:9
 book-new-requires : tie.Need-book-new-requires
 book-new-requires c κs =
     head-read (c .before .before .before .before .before .args .b .now) (length (c .before .before .before .before .before .args .names .now)) (c .before .before .before .head-of .ensures) (c .before .d .given .1) .shaped
 
--- src/lib.rt:211:28
 refused-requires-2 : tie.Need-refused-requires-2
 refused-requires-2 c κs = search needs
 
--- src/lib.rt:211:9
 turned-away-requires-2 : tie.Need-turned-away-requires-2
 turned-away-requires-2 c κs = search needs
 
--- src/lib.rt:211:9
 returns-2 : tie.Need-returns-2
 unfolding openingAnswer openingFault
 returns-2 c =
@@ -65,7 +55,6 @@ returns-2 c =
     let n : bookNew (dims (c .before .before .before .before .before .before .before .before .before .args .b .now)) (c .before .before .before .before .before .before .before .before .before .args .b .now) (c .before .before .before .before .before .before .before .before .before .args .names .now) ≡ false = rw (← v .same) (sym (c .before .before .before .book-new .ensures) ∙ not-true (c .before .before .before .book-new .result) (c .before .before .if1 .taken)) in
     record { says = c .turned-away2 .ensures ∙ ap refused (c .before .refused2 .ensures) ∙ rw (v .fine, n) }
 
--- src/lib.rt:204:1
 returns-3 : tie.Need-returns-3
 unfolding openingAnswer openingFault
 returns-3 c =

@@ -10,53 +10,42 @@ use Rattle.cells.proofs.refused.Reads as refused-reads
 use Rattle.cells.proofs.within.Reads as within-reads
 use Rattle.lookup.proofs.who_ok.Reads as who-ok-reads
 
--- src/lib.rt:65:9
 within-requires : tie.Need-within-requires
 within-requires c κs = search needs
 
--- src/lib.rt:66:9
 refused-requires : tie.Need-refused-requires
 refused-requires c κs = search needs
 
--- src/lib.rt:66:9
 returns : tie.Need-returns
 unfolding statusAsked
 returns c =
     turned-away 4 _ (c .before .before .within .ensures) (c .before .if1 .taken) (c .refused .ensures)
 
--- src/lib.rt:68:9
 within-requires-2 : tie.Need-within-requires-2
 within-requires-2 c κs = search needs
 
--- src/lib.rt:69:9
 refused-requires-2 : tie.Need-refused-requires-2
 refused-requires-2 c κs = search needs
 
--- src/lib.rt:69:9
 returns-2 : tie.Need-returns-2
 unfolding statusAsked
 returns-2 c =
     passed-on 4 _ (c .before .before .before .before .within .ensures) (c .before .before .before .if1 .left) (turned-away 5 _ (c .before .before .within2 .ensures) (c .before .if2 .taken) (c .refused2 .ensures))
 
--- src/lib.rt:71:9
 who-ok-requires : tie.Need-who-ok-requires
 who-ok-requires c κs = search needs
 
--- src/lib.rt:72:9
 refused-requires-3 : tie.Need-refused-requires-3
 refused-requires-3 c κs = search needs
 
--- src/lib.rt:72:9
 returns-3 : tie.Need-returns-3
 unfolding statusAsked
 returns-3 c =
     passed-on 4 _ (c .before .before .before .before .before .before .within .ensures) (c .before .before .before .before .before .if1 .left) (passed-on 5 _ (c .before .before .before .before .within2 .ensures) (c .before .before .before .if2 .left) (turned-away 6 _ (c .before .before .who-ok .ensures) (c .before .if3 .taken) (c .refused3 .ensures)))
 
--- src/lib.rt:74:5
 refused-requires-4 : tie.Need-refused-requires-4
 refused-requires-4 c κs = search needs
 
--- src/lib.rt:62:1
 returns-4 : tie.Need-returns-4
 unfolding statusAsked
 returns-4 c =

@@ -6,11 +6,9 @@ use Rattle.order_status.proofs.nothing_seen.Reads as reads
 use Rattle.order_status.proofs.nothing_seen.Lts as lts
 use Rattle.cells.proofs.refused.Reads as refused-reads
 
--- src/lib.rt:81:9
 refused-requires : tie.Need-refused-requires
 refused-requires c κs = search needs
 
--- src/lib.rt:78:1
 returns : tie.Need-returns
 returns c =
     rw (c .refused .ensures)

@@ -12,26 +12,21 @@ use Rattle.layout.proofs.orders_run.Reads as orders-run-reads
 use Rattle.order_status.proofs.scan.Reads as scan-reads
 use Rattle.rows.proofs.next_order.Reads as next-order-reads
 
--- src/lib.rt:119:9
 next-order-requires : tie.Need-next-order-requires
 next-order-requires c κs = search needs
 
--- src/lib.rt:120:13
 sub-n : tie.Need-sub-n
 sub-n c =
     omega (arith, district-in (c .before .args .d) (c .before .args .b .now) (c .before .args .w) (c .before .args .k) (c .before .pre .1 .1 .1), c .next-order .ensures)
 
--- src/lib.rt:121:9
 orders-run-requires : tie.Need-orders-run-requires
 orders-run-requires c κs =
     (c .before .pre .0 .dimsd, (c .before .pre .1 .0, (c .before .pre .1 .1 .0, omega (arith, district-in (c .before .args .d) (c .before .args .b .now) (c .before .args .w) (c .before .args .k) (c .before .pre .1 .1 .1), c .next-order .ensures, c .before .pre .0 .dimsd))))
 
--- src/lib.rt:122:5
 scan-requires : tie.Need-scan-requires
 scan-requires c κs =
     (c .before .before .pre .0 .dimsd, rows-in (c .before .before .args .d) (c .before .before .args .b .now) (c .before .before .args .w) (c .before .before .args .k) 1 (c .before .next-order .result - 1) (c .orders-run .ensures) (c .before .before .pre .0))
 
--- src/lib.rt:115:1
 returns : tie.Need-returns
 returns c =
     scanned (c .before .before .before .args .d) (c .before .before .before .args .b .now) (c .before .before .before .args .w) (c .before .before .before .args .k) (c .before .before .next-order .result) (c .before .before .before .args .c) (c .before .orders-run .ensures) (c .before .before .next-order .ensures) (c .scan .ensures)

@@ -27,54 +27,43 @@ Inv-loop b d run c n o₀ last₀ o last = (o ≤ n) × ((allTo o (okAt d b run)
 abbrev μ-loop : tie.MeasureT-loop
 μ-loop b d run c n o₀ last₀ o last = n - o
 
--- src/lib.rt:97:5
 loop-holds : tie.Need-loop-holds Inv-loop μ-loop
 loop-holds c =
     (search needs, (all-none (okAt (c .args .d) (c .args .b .now) (c .args .run)), sym (largest-none _)))
 
--- src/lib.rt:98:13
 order-in-requires : tie.Need-order-in-requires Inv-loop μ-loop
 order-in-requires c κs =
     omega (arith, c .before .before .pre .1 (c .before .loop .o) (c .loop-test .taken))
 
--- src/lib.rt:99:13
 order-ok-requires : tie.Need-order-ok-requires Inv-loop μ-loop
 order-ok-requires c κs =
     (c .before .before .before .pre .0, rw (c .order-in .ensures) (c .before .before .before .pre .1 (c .before .before .loop .o) (c .before .loop-test .taken)))
 
--- src/lib.rt:100:13
 returns : tie.Need-returns Inv-loop μ-loop
 returns c =
     ap (λ (t : Bool). scannedBy t (largest (isAt (c .before .before .before .before .before .args .b .now) (c .before .before .before .before .before .args .run) (c .before .before .before .before .before .args .c)) (c .before .before .before .before .before .args .run .count))) (all-left (okAt (c .before .before .before .before .before .args .d) (c .before .before .before .before .before .args .b .now) (c .before .before .before .before .before .args .run)) (c .before .before .before .before .before .args .run .count) (c .before .before .before .before .loop .o) (c .before .before .before .loop-test .taken) (row-test (c .before .before .before .before .before .args .d) (c .before .before .before .before .before .args .b .now) (c .before .before .before .before .before .args .run) (c .before .before .before .before .loop .o) (c .before .before .order-in .ensures) (c .before .order-ok .ensures)) (c .if1 .taken))
 
--- src/lib.rt:105:13
 held-requires : tie.Need-held-requires Inv-loop μ-loop
 held-requires c κs =
     (omega (arith, c .before .before .order-in .ensures, c .before .before .before .before .before .pre .1 (c .before .before .before .before .loop .o) (c .before .before .before .loop-test .taken)), row-held (c .before .before .before .before .before .args .d) (c .before .before .before .before .before .args .b .now) (c .before .before .order-in .result) (c .before .order-ok .ensures) (c .before .before .before .before .before .pre .0) (c .if1 .left))
 
--- src/lib.rt:106:9
 add-o : tie.Need-add-o Inv-loop μ-loop
 add-o c = search needs
 
--- src/lib.rt:97:5
 loop-less : tie.Need-loop-less Inv-loop μ-loop
 loop-less c = search needs
 
--- src/lib.rt:97:5
 loop-again : tie.Need-loop-again Inv-loop μ-loop
 loop-again c =
     (search needs, (all-again (okAt (c .before .before .before .before .before .before .before .args .d) (c .before .before .before .before .before .before .before .args .b .now) (c .before .before .before .before .before .before .before .args .run)) (c .before .before .before .before .before .before .loop .o) (c .before .before .before .before .before .before .loop .inv .1 .0) (row-test (c .before .before .before .before .before .before .before .args .d) (c .before .before .before .before .before .before .before .args .b .now) (c .before .before .before .before .before .before .before .args .run) (c .before .before .before .before .before .before .loop .o) (c .before .before .before .before .order-in .ensures) (c .before .before .before .order-ok .ensures)) (c .before .before .if1 .left), scan-here _ _ _ _ (c .before .before .before .before .order-in .ensures) (c .before .held .ensures) (c .if2 .taken)))
 
--- src/lib.rt:97:5
 loop-less-2 : tie.Need-loop-less-2 Inv-loop μ-loop
 loop-less-2 c = search needs
 
--- src/lib.rt:97:5
 loop-again-2 : tie.Need-loop-again-2 Inv-loop μ-loop
 loop-again-2 c =
     (search needs, (all-again (okAt (c .before .before .before .before .before .before .before .args .d) (c .before .before .before .before .before .before .before .args .b .now) (c .before .before .before .before .before .before .before .args .run)) (c .before .before .before .before .before .before .loop .o) (c .before .before .before .before .before .before .loop .inv .1 .0) (row-test (c .before .before .before .before .before .before .before .args .d) (c .before .before .before .before .before .before .before .args .b .now) (c .before .before .before .before .before .before .before .args .run) (c .before .before .before .before .before .before .loop .o) (c .before .before .before .before .order-in .ensures) (c .before .before .before .order-ok .ensures)) (c .before .before .if1 .left), scan-past _ _ _ _ (c .before .before .before .before .order-in .ensures) (c .before .held .ensures) (c .before .before .before .before .before .before .loop .inv .1 .1) (c .if2 .left)))
 
--- src/lib.rt:90:1
 returns-2 : tie.Need-returns-2 Inv-loop μ-loop
 returns-2 c =
     ap (scannedBy true) (c .before .loop .inv .1 .1 ∙ ap (largest (isAt (c .before .before .args .b .now) (c .before .before .args .run) (c .before .before .args .c))) (le-antisymm (c .before .loop .inv .0) (c .loop-test .left))) ∙ ap (λ (t : Bool). scannedBy t (largest (isAt (c .before .before .args .b .now) (c .before .before .args .run) (c .before .before .args .c)) (c .before .before .args .run .count))) (all-end (okAt (c .before .before .args .d) (c .before .before .args .b .now) (c .before .before .args .run)) (c .before .loop .inv .0) (c .loop-test .left) (c .before .loop .inv .1 .0))

@@ -15,22 +15,18 @@ use Rattle.order_status.proofs.seen_in.Lts as lts
 use Rattle.order_status.proofs.asked.Reads as asked-reads
 use Rattle.order_status.proofs.used.Reads as used-reads
 
--- src/lib.rt:192:9
 asked-requires : tie.Need-asked-requires
 asked-requires c κs = search needs
 
--- src/lib.rt:194:9
 used-requires : tie.Need-used-requires
 used-requires c κs =
     ((c .before .before .before .before .before .pre), status-asked (c .before .before .before .before .before .args .d) (c .before .before .before .before .before .args .q) (whoOf (c .before .before .before .before .before .args .who) (c .before .before .before .before .before .args .name .now)) (ap (λ (x : Refusal). x .number) (sym (c .before .before .asked .ensures)) ∙ c .if1 .taken))
 
--- src/lib.rt:194:9
 returns : tie.Need-returns
 returns c =
     let d = c .before .before .before .before .before .before .args .d in let b = c .before .before .before .before .before .before .args .b .now in let names = c .before .before .before .before .before .before .args .names .now in let q = c .before .before .before .before .before .before .args .q in let w = whoOf (c .before .before .before .before .before .before .args .who) (c .before .before .before .before .before .before .args .name .now) in
     c .used .ensures ∙ ap (λ (r : Refusal). seenBy r (statusCustomer d names q w) (statusOrder d b names q w)) (sym (fault-then (statusAsked d q w) (statusUsed d b names q w) (ap (λ (x : Refusal). x .number) (sym (c .before .before .before .asked .ensures)) ∙ c .before .if1 .taken) (status-asked-numbered d q w)))
 
--- src/lib.rt:188:1
 returns-2 : tie.Need-returns-2
 returns-2 c =
     let d = c .before .before .before .before .before .args .d in let b = c .before .before .before .before .before .args .b .now in let names = c .before .before .before .before .before .args .names .now in let q = c .before .before .before .before .before .args .q in let w = whoOf (c .before .before .before .before .before .args .who) (c .before .before .before .before .before .args .name .now) in

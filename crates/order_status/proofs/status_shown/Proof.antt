@@ -21,27 +21,21 @@ use Rattle.order_status.proofs.part_of.Reads as part-of-reads
 use Rattle.order_status.proofs.seen_in.Reads as seen-in-reads
 use Rattle.order_status.proofs.turned_away.Reads as turned-away-reads
 
--- src/lib.rt:258:25
 head-of-requires : tie.Need-head-of-requires
 head-of-requires c κs = search needs
 
--- src/lib.rt:258:20
 enum-known-d : tie.Need-enum-known-d
 enum-known-d c = search needs
 
--- src/lib.rt:259:28
 enum-told : tie.Need-enum-told
 enum-told c = search needs
 
--- src/lib.rt:259:28
 refused-requires : tie.Need-refused-requires
 refused-requires c κs = search needs
 
--- src/lib.rt:259:9
 turned-away-requires : tie.Need-turned-away-requires
 turned-away-requires c κs = search needs
 
--- src/lib.rt:259:9
 returns : tie.Need-returns
 unfolding statusFault
 returns c =
@@ -49,12 +43,10 @@ returns c =
     let z : c .before .refused .result .number ≡ 2 = ap (λ r. r .number) (c .before .refused .ensures) in
     turned-call b names q w (c .before .refused .ensures ∙ staged-head (headOk b (length names)) (statusAsked (dims b) q w) (statusUsed (dims b) b names q w) (head-damaged b (length names) (c .before .before .before .before .head-of .ensures) (c .before .before .enum-told .given .1))) (λ y. omega (arith, z, y)) (c .turned-away .ensures .0) (c .turned-away .ensures .1)
 
--- src/lib.rt:261:9
 seen-in-requires : tie.Need-seen-in-requires
 seen-in-requires c κs =
     head-read (c .before .before .before .before .before .before .args .b .now) (length (c .before .before .before .before .before .before .args .names .now)) (c .before .before .before .head-of .ensures) (c .before .d .given .1) .shaped
 
--- src/lib.rt:264:13
 figures-of-requires : tie.Need-figures-of-requires
 figures-of-requires c κs =
     let v = head-read (c .before .before .before .before .before .before .before .before .before .before .args .b .now) (length (c .before .before .before .before .before .before .before .before .before .before .args .names .now)) (c .before .before .before .before .before .before .before .head-of .ensures) (c .before .before .before .before .before .d .given .1) in
@@ -62,7 +54,6 @@ figures-of-requires c κs =
     let y = ready _ _ _ _ e (c .if1 .taken) in
     rw (v .same) (shaped-booked (y .shaped), (y .asked .w, (y .asked .k, (shown-customer _ _ _ _ e (c .if1 .taken), order-high _ _ _ _ e (c .if1 .taken)))))
 
--- src/lib.rt:266:13
 part-of-requires : tie.Need-part-of-requires
 part-of-requires c κs =
     let v = head-read (c .before .before .before .before .before .before .before .before .before .before .before .args .b .now) (length (c .before .before .before .before .before .before .before .before .before .before .before .args .names .now)) (c .before .before .before .before .before .before .before .before .head-of .ensures) (c .before .before .before .before .before .before .d .given .1) in
@@ -70,7 +61,6 @@ part-of-requires c κs =
     let y = ready _ _ _ _ e (c .before .if1 .taken) in
     rw (v .same) (shaped-booked (y .shaped), (y .asked .w, (y .asked .k, (order-high _ _ _ _ e (c .before .if1 .taken), λ n. let x = shown-order _ _ _ _ e (c .before .if1 .taken) n in record { lo = x .count-low; hi = x .count-high }))))
 
--- src/lib.rt:267:9
 returns-2 : tie.Need-returns-2
 returns-2 c =
     let v = head-read (c .before .before .before .before .before .before .before .before .before .before .before .before .args .b .now) (length (c .before .before .before .before .before .before .before .before .before .before .before .before .args .names .now)) (c .before .before .before .before .before .before .before .before .before .head-of .ensures) (c .before .before .before .before .before .before .before .d .given .1) in
@@ -81,11 +71,9 @@ returns-2 c =
       shows = c .part-of .ensures .1 ∙ rw (v .same) (shown-lines _ _ _ _ e (c .before .before .if1 .taken));
     }
 
--- src/lib.rt:269:5
 turned-away-requires-2 : tie.Need-turned-away-requires-2
 turned-away-requires-2 c κs = search needs
 
--- src/lib.rt:255:1
 returns-3 : tie.Need-returns-3
 returns-3 c =
     let v = head-read (c .before .before .before .before .before .before .before .before .before .before .before .args .b .now) (length (c .before .before .before .before .before .before .before .before .before .before .before .args .names .now)) (c .before .before .before .before .before .before .before .before .head-of .ensures) (c .before .before .before .before .before .before .d .given .1) in

@@ -18,82 +18,65 @@ use Rattle.order_status.proofs.orders_scanned.Reads as orders-scanned-r
 use Rattle.order_status.proofs.who_used.Reads as who-used-reads
 use Rattle.rows.proofs.district_used.Reads as district-used-reads
 
--- src/lib.rt:163:9
 district-used-requires : tie.Need-district-used-requires
 district-used-requires c κs = search needs
 
--- src/lib.rt:164:9
 nothing-seen-requires : tie.Need-nothing-seen-requires
 nothing-seen-requires c κs = search needs
 
--- src/lib.rt:164:9
 returns : tie.Need-returns
 unfolding statusUsed
 returns c =
     c .nothing-seen .ensures ∙ simp (← c .before .before .district-used .ensures, not-true (c .before .before .district-used .result) (c .before .if1 .taken))
 
--- src/lib.rt:166:9
 who-used-requires : tie.Need-who-used-requires
 who-used-requires c κs = search needs
 
--- src/lib.rt:167:9
 nothing-seen-requires-2 : tie.Need-nothing-seen-requires-2
 nothing-seen-requires-2 c κs = search needs
 
--- src/lib.rt:167:9
 returns-2 : tie.Need-returns-2
 unfolding statusUsed
 returns-2 c =
     c .nothing-seen2 .ensures ∙ simp (← c .before .before .before .before .district-used .ensures, not-false (c .before .before .before .before .district-used .result) (c .before .before .before .if1 .left), ← c .before .before .who-used .ensures, not-true (c .before .before .who-used .result) (c .before .if2 .taken))
 
--- src/lib.rt:169:9
 customer-of-requires : tie.Need-customer-of-requires
 customer-of-requires c κs = search needs
 
--- src/lib.rt:170:9
 number-of-requires : tie.Need-number-of-requires
 number-of-requires c κs = search needs
 
--- src/lib.rt:171:9
 orders-scanned-requires : tie.Need-orders-scanned-requires
 orders-scanned-requires c κs =
     (shaped-booked (c .before .before .before .before .before .before .before .before .pre .0), (c .before .before .before .before .before .before .before .before .pre .1 .w, (c .before .before .before .before .before .before .before .before .pre .1 .k, sym (c .before .before .before .before .before .district-used .ensures) ∙ not-false (c .before .before .before .before .before .district-used .result) (c .before .before .before .before .if1 .left))))
 
--- src/lib.rt:173:9
 nothing-seen-requires-3 : tie.Need-nothing-seen-requires-3
 nothing-seen-requires-3 c κs = search needs
 
--- src/lib.rt:173:9
 returns-3 : tie.Need-returns-3
 unfolding statusUsed
 returns-3 c =
     let d = c .before .before .before .before .before .before .before .before .before .before .before .before .args .d in let b = c .before .before .before .before .before .before .before .before .before .before .before .before .args .b .now in let w = c .before .before .before .before .before .before .before .before .before .before .before .before .args .q .warehouse in let k = c .before .before .before .before .before .before .before .before .before .before .before .before .args .q .district in
     c .nothing-seen3 .ensures ∙ simp (← c .before .before .before .before .before .before .before .before .before .district-used .ensures, not-false (c .before .before .before .before .before .before .before .before .before .district-used .result) (c .before .before .before .before .before .before .before .before .if1 .left), ← c .before .before .before .before .before .before .before .who-used .ensures, not-false (c .before .before .before .before .before .before .before .who-used .result) (c .before .before .before .before .before .before .if2 .left), scan-unfit (ordersUsed d b w k) (lastOrder d b w k (c .before .before .before .before .number-of .result)) (c .before .before .before .orders-scanned .ensures) (c .before .if3 .taken))
 
--- src/lib.rt:175:25
 enum-known-found : tie.Need-enum-known-found
 enum-known-found c = search needs
 
--- src/lib.rt:176:9
 enum-told : tie.Need-enum-told
 enum-told c = search needs
 
--- src/lib.rt:176:9
 nothing-seen-requires-4 : tie.Need-nothing-seen-requires-4
 nothing-seen-requires-4 c κs = search needs
 
--- src/lib.rt:176:9
 returns-4 : tie.Need-returns-4
 unfolding statusUsed
 returns-4 c =
     let d = c .before .before .before .before .before .before .before .before .before .before .before .before .before .before .args .d in let b = c .before .before .before .before .before .before .before .before .before .before .before .before .before .before .args .b .now in let w = c .before .before .before .before .before .before .before .before .before .before .before .before .before .before .args .q .warehouse in let k = c .before .before .before .before .before .before .before .before .before .before .before .before .before .before .args .q .district in
     c .nothing-seen4 .ensures ∙ simp (← c .before .before .before .before .before .before .before .before .before .before .before .district-used .ensures, not-false (c .before .before .before .before .before .before .before .before .before .before .before .district-used .result) (c .before .before .before .before .before .before .before .before .before .before .if1 .left), ← c .before .before .before .before .before .before .before .before .before .who-used .ensures, not-false (c .before .before .before .before .before .before .before .before .before .who-used .result) (c .before .before .before .before .before .before .before .before .if2 .left), scan-fine (ordersUsed d b w k) (lastOrder d b w k (c .before .before .before .before .before .before .number-of .result)) (c .before .before .before .before .before .orders-scanned .ensures) (c .before .before .before .if3 .left), ← c .before .before .before .before .before .before .before .customer-of .ensures, c .before .enum-told .given .1)
 
--- src/lib.rt:179:9
 refused-requires : tie.Need-refused-requires
 refused-requires c κs = search needs
 
--- src/lib.rt:159:1
 returns-5 : tie.Need-returns-5
 unfolding statusUsed statusCustomer statusOrder
 returns-5 c =

@@ -11,89 +11,70 @@ use Rattle.cells.proofs.refused.Reads as refused-reads
 use Rattle.cells.proofs.within.Reads as within-reads
 use Rattle.lookup.proofs.who_ok.Reads as who-ok-reads
 
--- src/lib.rt:53:9
 within-requires : tie.Need-within-requires
 within-requires c κs = search needs
 
--- src/lib.rt:54:10
 within-requires-2 : tie.Need-within-requires-2
 within-requires-2 c κs = search needs
 
--- src/lib.rt:55:9
 refused-requires : tie.Need-refused-requires
 refused-requires c κs = search needs
 
--- src/lib.rt:55:9
 returns : tie.Need-returns
 unfolding payAsked
 returns c =
     turned-away 4 _ (and-same (c .before .before .within2 .ensures) (c .before .before .before .within .ensures)) (c .before .if1 .taken) (c .refused .ensures)
 
--- src/lib.rt:57:9
 within-requires-3 : tie.Need-within-requires-3
 within-requires-3 c κs = search needs
 
--- src/lib.rt:58:10
 within-requires-4 : tie.Need-within-requires-4
 within-requires-4 c κs = search needs
 
--- src/lib.rt:59:9
 refused-requires-2 : tie.Need-refused-requires-2
 refused-requires-2 c κs = search needs
 
--- src/lib.rt:59:9
 returns-2 : tie.Need-returns-2
 unfolding payAsked
 returns-2 c =
     passed-on 4 _ (and-same (c .before .before .before .before .before .within2 .ensures) (c .before .before .before .before .before .before .within .ensures)) (c .before .before .before .before .if1 .left) (turned-away 5 _ (and-same (c .before .before .within4 .ensures) (c .before .before .before .within3 .ensures)) (c .before .if2 .taken) (c .refused2 .ensures))
 
--- src/lib.rt:61:9
 who-ok-requires : tie.Need-who-ok-requires
 who-ok-requires c κs = search needs
 
--- src/lib.rt:62:9
 refused-requires-3 : tie.Need-refused-requires-3
 refused-requires-3 c κs = search needs
 
--- src/lib.rt:62:9
 returns-3 : tie.Need-returns-3
 unfolding payAsked
 returns-3 c =
     passed-on 4 _ (and-same (c .before .before .before .before .before .before .before .within2 .ensures) (c .before .before .before .before .before .before .before .before .within .ensures)) (c .before .before .before .before .before .before .if1 .left) (passed-on 5 _ (and-same (c .before .before .before .before .within4 .ensures) (c .before .before .before .before .before .within3 .ensures)) (c .before .before .before .if2 .left) (turned-away 6 _ (c .before .before .who-ok .ensures) (c .before .if3 .taken) (c .refused3 .ensures)))
 
--- src/lib.rt:64:9
 within-requires-5 : tie.Need-within-requires-5
 within-requires-5 c κs = search needs
 
--- src/lib.rt:65:9
 refused-requires-4 : tie.Need-refused-requires-4
 refused-requires-4 c κs = search needs
 
--- src/lib.rt:65:9
 returns-4 : tie.Need-returns-4
 unfolding payAsked
 returns-4 c =
     passed-on 4 _ (and-same (c .before .before .before .before .before .before .before .before .before .within2 .ensures) (c .before .before .before .before .before .before .before .before .before .before .within .ensures)) (c .before .before .before .before .before .before .before .before .if1 .left) (passed-on 5 _ (and-same (c .before .before .before .before .before .before .within4 .ensures) (c .before .before .before .before .before .before .before .within3 .ensures)) (c .before .before .before .before .before .if2 .left) (passed-on 6 _ (c .before .before .before .before .who-ok .ensures) (c .before .before .before .if3 .left) (turned-away 7 _ (c .before .before .within5 .ensures) (c .before .if4 .taken) (c .refused4 .ensures))))
 
--- src/lib.rt:67:9
 within-requires-6 : tie.Need-within-requires-6
 within-requires-6 c κs = search needs
 
--- src/lib.rt:68:9
 refused-requires-5 : tie.Need-refused-requires-5
 refused-requires-5 c κs = search needs
 
--- src/lib.rt:68:9
 returns-5 : tie.Need-returns-5
 unfolding payAsked
 returns-5 c =
     passed-on 4 _ (and-same (c .before .before .before .before .before .before .before .before .before .before .before .within2 .ensures) (c .before .before .before .before .before .before .before .before .before .before .before .before .within .ensures)) (c .before .before .before .before .before .before .before .before .before .before .if1 .left) (passed-on 5 _ (and-same (c .before .before .before .before .before .before .before .before .within4 .ensures) (c .before .before .before .before .before .before .before .before .before .within3 .ensures)) (c .before .before .before .before .before .before .before .if2 .left) (passed-on 6 _ (c .before .before .before .before .before .before .who-ok .ensures) (c .before .before .before .before .before .if3 .left) (passed-on 7 _ (c .before .before .before .before .within5 .ensures) (c .before .before .before .if4 .left) (turned-away 8 _ (c .before .before .within6 .ensures) (c .before .if5 .taken) (c .refused5 .ensures)))))
 
--- src/lib.rt:70:5
 refused-requires-6 : tie.Need-refused-requires-6
 refused-requires-6 c κs = search needs
 
--- src/lib.rt:50:1
 returns-6 : tie.Need-returns-6
 unfolding payAsked
 returns-6 c =

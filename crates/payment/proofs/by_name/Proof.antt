@@ -14,47 +14,37 @@ use Rattle.lookup.proofs.named_used.Reads as named-used-reads
 use Rattle.payment.proofs.nobody_pays.Reads as nobody-pays-reads
 use Rattle.payment.proofs.with_room.Reads as with-room-reads
 
--- src/lib.rt:116:9
 named-used-requires : tie.Need-named-used-requires
 named-used-requires c κs = search needs
 
--- src/lib.rt:117:9
 nobody-pays-requires : tie.Need-nobody-pays-requires
 nobody-pays-requires c κs = search needs
 
--- src/lib.rt:117:9
 returns : tie.Need-returns
 unfolding payUsed whoUsed
 returns c =
     c .nobody-pays .ensures ∙ simp (← c .before .before .named-used .ensures, not-true (c .before .before .named-used .result) (c .before .if1 .taken))
 
--- src/lib.rt:119:9
 find-requires : tie.Need-find-requires
 find-requires c κs = search needs
 
--- src/lib.rt:120:25
 enum-known-found : tie.Need-enum-known-found
 enum-known-found c = search needs
 
--- src/lib.rt:121:9
 enum-told : tie.Need-enum-told
 enum-told c = search needs
 
--- src/lib.rt:121:9
 nobody-pays-requires-2 : tie.Need-nobody-pays-requires-2
 nobody-pays-requires-2 c κs = search needs
 
--- src/lib.rt:121:9
 returns-2 : tie.Need-returns-2
 unfolding payUsed whoUsed customerOf
 returns-2 c =
     c .nobody-pays2 .ensures ∙ simp (← c .before .before .before .before .before .named-used .ensures, not-false (c .before .before .before .before .before .named-used .result) (c .before .before .before .before .if1 .left), ← c .before .before .before .find .ensures, c .before .enum-told .given .1)
 
--- src/lib.rt:123:5
 with-room-requires : tie.Need-with-room-requires
 with-room-requires c κs = search needs
 
--- src/lib.rt:112:1
 returns-3 : tie.Need-returns-3
 unfolding payUsed whoUsed customerOf payer
 returns-3 c =

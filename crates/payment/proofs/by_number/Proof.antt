@@ -17,26 +17,21 @@ use Rattle.payment.proofs.nobody_pays.Reads as nobody-pays-reads
 use Rattle.payment.proofs.with_room.Reads as with-room-reads
 use Rattle.rows.proofs.customer_used.Reads as customer-used-reads
 
--- src/lib.rt:105:9
 customer-used-requires : tie.Need-customer-used-requires
 customer-used-requires c κs =
     (shaped-booked (c .before .pre .0), (c .before .pre .1 .cw, (c .before .pre .1 .ck, number-in (c .before .args .d) (Number (c .before .args .c)) [] _ refl (c .before .pre .1 .who-ok))))
 
--- src/lib.rt:106:9
 nobody-pays-requires : tie.Need-nobody-pays-requires
 nobody-pays-requires c κs = search needs
 
--- src/lib.rt:106:9
 returns : tie.Need-returns
 unfolding payUsed whoUsed
 returns c =
     c .nobody-pays .ensures ∙ simp (← c .before .before .customer-used .ensures, not-true (c .before .before .customer-used .result) (c .before .if1 .taken))
 
--- src/lib.rt:108:5
 with-room-requires : tie.Need-with-room-requires
 with-room-requires c κs = search needs
 
--- src/lib.rt:101:1
 returns-2 : tie.Need-returns-2
 unfolding payUsed whoUsed customerOf payer
 returns-2 c =

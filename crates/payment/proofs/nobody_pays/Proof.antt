@@ -6,11 +6,9 @@ use Rattle.payment.proofs.nobody_pays.Reads as reads
 use Rattle.payment.proofs.nobody_pays.Lts as lts
 use Rattle.cells.proofs.refused.Reads as refused-reads
 
--- src/lib.rt:77:9
 refused-requires : tie.Need-refused-requires
 refused-requires c κs = search needs
 
--- src/lib.rt:74:1
 returns : tie.Need-returns
 returns c =
     rw (c .refused .ensures)

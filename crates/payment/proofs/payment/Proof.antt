@@ -20,31 +20,24 @@ use Rattle.payment.proofs.commit.Reads as commit-reads
 use Rattle.payment.proofs.payer_in.Reads as payer-in-reads
 use Rattle.payment.proofs.turned_away.Reads as turned-away-reads
 
--- src/lib.rt:255:25
 head-of-requires : tie.Need-head-of-requires
 head-of-requires c κs = search needs
 
--- src/lib.rt:255:20
 enum-known-d : tie.Need-enum-known-d
 enum-known-d c = search needs
 
--- src/lib.rt:256:28
 enum-told : tie.Need-enum-told
 enum-told c = search needs
 
--- src/lib.rt:256:28
 refused-requires : tie.Need-refused-requires
 refused-requires c κs = search needs
 
--- src/lib.rt:256:9
 turned-away-requires : tie.Need-turned-away-requires
 turned-away-requires c κs = search needs
 
--- src/lib.rt:256:9
 same-length : tie.Need-same-length
 same-length c = search needs
 
--- src/lib.rt:256:9
 returns : tie.Need-returns
 unfolding paymentFault
 returns c =
@@ -52,34 +45,27 @@ returns c =
     let z : c .before .refused .result .number ≡ 2 = ap (λ r. r .number) (c .before .refused .ensures) in
     turned-call b names q w (c .before .refused .ensures ∙ staged-head (headOk b (length names)) (payAsked (dims b) q w) (payUsed (dims b) b names q w) (head-damaged b (length names) (c .before .before .before .before .head-of .ensures) (c .before .before .enum-told .given .1))) (λ y. omega (arith, z, y)) (c .turned-away .ensures)
 
--- src/lib.rt:258:9
 payer-in-requires : tie.Need-payer-in-requires
 payer-in-requires c κs =
     head-read (c .before .before .before .before .before .before .before .before .args .b .now) (length (c .before .before .before .before .before .before .before .before .args .names .now)) (c .before .before .before .before .head-of .ensures) (c .before .before .d .given .1) .shaped
 
--- src/lib.rt:261:13
 commit-requires : tie.Need-commit-requires
 commit-requires c κs =
     pays (c .before .before .before .before .before .before .before .before .before .before .before .before .before .args .b .now) (c .before .before .before .before .before .before .before .before .before .before .before .before .before .args .names .now) (c .before .before .before .before .before .before .before .before .before .before .before .before .before .args .q) (whoOf (c .before .before .before .before .before .before .before .before .before .before .before .before .before .args .who) (c .before .before .before .before .before .before .before .before .before .before .before .before .before .args .name .now)) (head-read (c .before .before .before .before .before .before .before .before .before .before .before .before .before .args .b .now) (length (c .before .before .before .before .before .before .before .before .before .before .before .before .before .args .names .now)) (c .before .before .before .before .before .before .before .before .before .head-of .ensures) (c .before .before .before .before .before .before .before .d .given .1)) (c .before .before .before .before .payer-in .ensures) (c .before .if1 .taken)
 
--- src/lib.rt:266:9
 same-length-2 : tie.Need-same-length-2
 same-length-2 c = search needs
 
--- src/lib.rt:266:9
 returns-2 : tie.Need-returns-2
 returns-2 c =
     paid-call (c .before .before .before .before .before .before .before .before .before .before .before .before .before .before .before .args .b .now) (c .before .before .before .before .before .before .before .before .before .before .before .before .before .before .before .args .names .now) (c .before .before .before .before .before .before .before .before .before .before .before .before .before .before .before .args .q) (whoOf (c .before .before .before .before .before .before .before .before .before .before .before .before .before .before .before .args .who) (c .before .before .before .before .before .before .before .before .before .before .before .before .before .before .before .args .name .now)) (head-read (c .before .before .before .before .before .before .before .before .before .before .before .before .before .before .before .args .b .now) (length (c .before .before .before .before .before .before .before .before .before .before .before .before .before .before .before .args .names .now)) (c .before .before .before .before .before .before .before .before .before .before .before .head-of .ensures) (c .before .before .before .before .before .before .before .before .before .d .given .1)) (c .before .before .before .before .before .before .payer-in .ensures) (c .before .before .before .if1 .taken) (rw (held {z = c .before .commit .result} (c .before .commit .ok), c .before .commit .ensures .0)) (c .before .commit .ensures .1)
 
--- src/lib.rt:268:5
 turned-away-requires-2 : tie.Need-turned-away-requires-2
 turned-away-requires-2 c κs = search needs
 
--- src/lib.rt:246:1
 same-length-3 : tie.Need-same-length-3
 same-length-3 c = search needs
 
--- src/lib.rt:246:1
 returns-3 : tie.Need-returns-3
 returns-3 c =
     turned-call (c .before .before .before .before .before .before .before .before .before .before .before .before .before .args .b .now) (c .before .before .before .before .before .before .before .before .before .before .before .before .before .args .names .now) (c .before .before .before .before .before .before .before .before .before .before .before .before .before .args .q) (whoOf (c .before .before .before .before .before .before .before .before .before .before .before .before .before .args .who) (c .before .before .before .before .before .before .before .before .before .before .before .before .before .args .name .now)) (refusal-is (c .before .before .before .before .before .before .before .before .before .before .before .before .before .args .b .now) (c .before .before .before .before .before .before .before .before .before .before .before .before .before .args .names .now) (c .before .before .before .before .before .before .before .before .before .before .before .before .before .args .q) (whoOf (c .before .before .before .before .before .before .before .before .before .before .before .before .before .args .who) (c .before .before .before .before .before .before .before .before .before .before .before .before .before .args .name .now)) (head-read (c .before .before .before .before .before .before .before .before .before .before .before .before .before .args .b .now) (length (c .before .before .before .before .before .before .before .before .before .before .before .before .before .args .names .now)) (c .before .before .before .before .before .before .before .before .before .head-of .ensures) (c .before .before .before .before .before .before .before .d .given .1)) (c .before .before .before .before .payer-in .ensures)) (c .before .if1 .left) (c .turned-away2 .ensures)

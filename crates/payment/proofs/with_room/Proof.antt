@@ -15,31 +15,25 @@ use Rattle.cells.proofs.refused.Reads as refused-reads
 use Rattle.payment.proofs.nobody_pays.Reads as nobody-pays-reads
 use Rattle.rows.proofs.history_count.Reads as history-count-reads
 
--- src/lib.rt:89:15
 history-count-requires : tie.Need-history-count-requires
 history-count-requires c κs = search needs
 
--- src/lib.rt:89:15
 add-row : tie.Need-add-row
 add-row c =
     omega (arith, c .history-count .ensures, head-num (c .before .before .args .d) (c .before .before .args .b .now), c .before .before .pre .count, c .before .before .pre .dimsd)
 
--- src/lib.rt:91:9
 nobody-pays-requires : tie.Need-nobody-pays-requires
 nobody-pays-requires c κs = search needs
 
--- src/lib.rt:91:9
 returns : tie.Need-returns
 unfolding payUsed
 returns c =
     let h : ltb (c .before .before .before .history-count .result) (c .before .before .before .before .before .args .d .histories) ≡ false = le-ltb (c .before .before .before .history-count .result) (c .before .before .before .before .before .args .d .histories) (omega (arith, c .before .if1 .taken)) in
     c .nobody-pays .ensures ∙ simp (← c .before .before .before .history-count .ensures, h)
 
--- src/lib.rt:93:9
 refused-requires : tie.Need-refused-requires
 refused-requires c κs = search needs
 
--- src/lib.rt:85:1
 returns-2 : tie.Need-returns-2
 unfolding payUsed
 returns-2 c =

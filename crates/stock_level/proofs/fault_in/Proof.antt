@@ -11,21 +11,17 @@ use Rattle.stock_level.proofs.fault_in.Lts as lts
 use Rattle.stock_level.proofs.asked.Reads as asked-reads
 use Rattle.stock_level.proofs.used.Reads as used-reads
 
--- src/lib.rt:61:9
 asked-requires : tie.Need-asked-requires
 asked-requires c κs = search needs
 
--- src/lib.rt:63:9
 used-requires : tie.Need-used-requires
 used-requires c κs =
     let a = level-asked (c .before .before .before .args .d) (c .before .before .before .args .q) (ap (λ r. r .number) (sym (c .before .before .asked .ensures)) ∙ c .if1 .taken) in ((c .before .before .before .pre), (a .w, a .k))
 
--- src/lib.rt:63:9
 returns : tie.Need-returns
 returns c =
     c .used .ensures ∙ sym (fault-then (levelAsked (c .before .before .before .before .args .d) (c .before .before .before .before .args .q)) (levelUsed (c .before .before .before .before .args .d) (c .before .before .before .before .args .b .now) (c .before .before .before .before .args .q)) (ap (λ r. r .number) (sym (c .before .before .before .asked .ensures)) ∙ c .before .if1 .taken) (level-asked-numbered (c .before .before .before .before .args .d) (c .before .before .before .before .args .q)))
 
--- src/lib.rt:57:1
 returns-2 : tie.Need-returns-2
 returns-2 c =
     c .before .before .asked .ensures ∙ sym (fault-first (levelAsked (c .before .before .before .args .d) (c .before .before .before .args .q)) (levelUsed (c .before .before .before .args .d) (c .before .before .before .args .b .now) (c .before .before .before .args .q)) (λ z. c .if1 .left (ap (λ r. r .number) (c .before .before .asked .ensures) ∙ z)))

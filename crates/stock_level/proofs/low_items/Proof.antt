@@ -12,39 +12,31 @@ use Rattle.rows.proofs.next_order.Reads as next-order-reads
 use Rattle.rows.proofs.window_first.Reads as window-first-reads
 use Rattle.stock_level.proofs.note_run.Reads as note-run-reads
 
--- src/lib.rt:136:9
 next-order-requires : tie.Need-next-order-requires
 next-order-requires c κs = search needs
 
--- src/lib.rt:137:9
 window-first-requires : tie.Need-window-first-requires
 window-first-requires c κs = search needs
 
--- src/lib.rt:138:17
 sub-count : tie.Need-sub-count
 sub-count c =
     omega (arith, first-in (c .before .before .args .d) (c .before .before .args .b .now) (c .before .before .args .q) ((c .before .before .pre)) (c .before .next-order .result) (c .window-first .result) (c .before .next-order .ensures) (c .window-first .ensures))
 
--- src/lib.rt:139:9
 orders-run-requires : tie.Need-orders-run-requires
 orders-run-requires c κs =
     let f = first-in (c .before .before .args .d) (c .before .before .args .b .now) (c .before .before .args .q) ((c .before .before .pre)) (c .before .next-order .result) (c .window-first .result) (c .before .next-order .ensures) (c .window-first .ensures) in
     (c .before .before .pre .booked .dimsd, (c .before .before .pre .asked .w, (c .before .before .pre .asked .k, (record { lo = f .low; hi = f .high }, omega (arith, f, c .before .next-order .ensures, c .before .before .pre .used .district .next-high)))))
 
--- src/lib.rt:140:9
 stock-at-requires : tie.Need-stock-at-requires
 stock-at-requires c κs = search needs
 
--- src/lib.rt:142:37
 slice-aggregate-note-run : tie.Need-slice-aggregate-note-run
 slice-aggregate-note-run c = search needs
 
--- src/lib.rt:142:5
 note-run-requires : tie.Need-note-run-requires
 note-run-requires c κs =
     (reads (c .before .before .before .before .before .args .d) (c .before .before .before .before .before .args .b .now) (c .before .before .before .before .before .args .q) ((c .before .before .before .before .before .pre)) (c .before .before .before .before .next-order .result) (c .before .before .before .window-first .result) (c .before .before .before .before .next-order .ensures) (c .before .before .before .window-first .ensures) (c .before .before .orders-run .ensures) (c .before .stock-at .result) (c .before .stock-at .ensures .0), omega (arith, c .before .before .orders-run .ensures .count, few (c .before .before .before .before .before .args .d) (c .before .before .before .before .before .args .b .now) (c .before .before .before .before .before .args .q) ((c .before .before .before .before .before .pre)) (c .before .before .before .before .next-order .result) (c .before .before .before .window-first .result) (c .before .before .before .before .next-order .ensures) (c .before .before .before .window-first .ensures)))
 
--- src/lib.rt:132:1
 returns : tie.Need-returns
 returns c =
     let f = few (c .before .before .before .before .before .before .before .args .d) (c .before .before .before .before .before .before .before .args .b .now) (c .before .before .before .before .before .before .before .args .q) ((c .before .before .before .before .before .before .before .pre)) (c .before .before .before .before .before .before .next-order .result) (c .before .before .before .before .before .window-first .result) (c .before .before .before .before .before .before .next-order .ensures) (c .before .before .before .before .before .window-first .ensures) in

@@ -20,40 +20,32 @@ Inv-loop b stock threshold list₀ run n k₀ i₀ list k i = (i ≤ n) × ((k �
 abbrev μ-loop : tie.MeasureT-loop
 μ-loop b stock threshold list₀ run n k₀ i₀ list k i = n - i
 
--- src/lib.rt:123:5
 loop-holds : tie.Need-loop-holds Inv-loop μ-loop
 unfolding itemsIn
 loop-holds c =
     (search needs, (search needs, (search needs, refl)))
 
--- src/lib.rt:124:13
 order-in-requires : tie.Need-order-in-requires Inv-loop μ-loop
 order-in-requires c κs =
     omega (arith, c .before .before .before .pre .0 (c .before .loop .i) (c .loop-test .taken) .ends)
 
--- src/lib.rt:125:9
 note-order-requires : tie.Need-note-order-requires Inv-loop μ-loop
 note-order-requires c κs =
     (rw (c .before .order-in .ensures) (c .before .before .before .before .before .pre .0 (c .before .before .before .loop .i) (c .before .before .loop-test .taken)), omega (arith, c .before .before .before .before .before .pre .1, c .before .before .before .loop .inv, c .before .before .loop-test .taken))
 
--- src/lib.rt:126:9
 add-i : tie.Need-add-i Inv-loop μ-loop
 add-i c = search needs
 
--- src/lib.rt:123:5
 loop-less : tie.Need-loop-less Inv-loop μ-loop
 loop-less c = search needs
 
--- src/lib.rt:123:5
 loop-again : tie.Need-loop-again Inv-loop μ-loop
 loop-again c =
     (search needs, (search needs, (search needs, run-turn (c .before .before .before .before .before .before .before .before .args .b .now) (c .before .before .before .before .before .before .before .before .args .stock) (c .before .before .before .before .before .before .before .before .args .threshold) (c .before .before .before .before .before .before .before .before .args .run) (c .before .before .before .before .before .before .loop .i) (take (c .before .before .before .before .before .before .loop .k) (c .before .before .before .before .before .before .loop .list)) (c .before .before .before .before .before .before .loop .inv .1 .1 .1) (c .before .before .before .before .order-in .ensures) (c .before .before .note-order .ensures .1))))
 
--- src/lib.rt:115:1
 same-length : tie.Need-same-length Inv-loop μ-loop
 same-length c = search needs
 
--- src/lib.rt:115:1
 returns : tie.Need-returns Inv-loop μ-loop
 returns c =
     let e : c .before .loop .i ≡ c .before .before .before .args .run .count = le-antisymm (c .before .loop .inv .0) (c .loop-test .left) in

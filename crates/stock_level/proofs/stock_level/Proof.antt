@@ -19,27 +19,21 @@ use Rattle.stock_level.proofs.fault_in.Reads as fault-in-reads
 use Rattle.stock_level.proofs.low_items.Reads as low-items-reads
 use Rattle.stock_level.proofs.turned_away.Reads as turned-away-reads
 
--- src/lib.rt:157:25
 head-of-requires : tie.Need-head-of-requires
 head-of-requires c κs = search needs
 
--- src/lib.rt:157:20
 enum-known-d : tie.Need-enum-known-d
 enum-known-d c = search needs
 
--- src/lib.rt:158:28
 enum-told : tie.Need-enum-told
 enum-told c = search needs
 
--- src/lib.rt:158:28
 refused-requires : tie.Need-refused-requires
 refused-requires c κs = search needs
 
--- src/lib.rt:158:9
 turned-away-requires : tie.Need-turned-away-requires
 turned-away-requires c κs = search needs
 
--- src/lib.rt:158:9
 returns : tie.Need-returns
 unfolding stockLevelFault
 returns c =
@@ -47,26 +41,21 @@ returns c =
     let z : c .before .refused .result .number ≡ 2 = ap (λ r. r .number) (c .before .refused .ensures) in
     turned-call b (c .before .before .before .before .before .before .args .names .now) q (c .before .refused .ensures ∙ staged-head (headOk b n) (levelAsked (dims b) q) (levelUsed (dims b) b q) (head-damaged b n (c .before .before .before .before .head-of .ensures) (c .before .before .enum-told .given .1))) (λ y. omega (arith, z, y)) (c .turned-away .ensures)
 
--- src/lib.rt:160:9
 fault-in-requires : tie.Need-fault-in-requires
 fault-in-requires c κs =
     shaped-booked (head-read (c .before .before .before .before .before .args .b .now) (length (c .before .before .before .before .before .args .names .now)) (c .before .before .before .head-of .ensures) (c .before .d .given .1) .shaped)
 
--- src/lib.rt:162:13
 low-items-requires : tie.Need-low-items-requires
 low-items-requires c κs =
     ready (c .before .before .before .before .before .before .before .before .args .b .now) (c .before .before .before .before .before .before .before .before .args .names .now) (c .before .before .before .before .before .before .before .before .args .q) (head-read (c .before .before .before .before .before .before .before .before .args .b .now) (length (c .before .before .before .before .before .before .before .before .args .names .now)) (c .before .before .before .before .before .before .head-of .ensures) (c .before .before .before .before .d .given .1)) (c .before .before .fault-in .ensures) (c .if1 .taken)
 
--- src/lib.rt:164:9
 returns-2 : tie.Need-returns-2
 returns-2 c =
     counted-call (c .before .before .before .before .before .before .before .before .before .args .b .now) (c .before .before .before .before .before .before .before .before .before .args .names .now) (c .before .before .before .before .before .before .before .before .before .args .q) (head-read (c .before .before .before .before .before .before .before .before .before .args .b .now) (length (c .before .before .before .before .before .before .before .before .before .args .names .now)) (c .before .before .before .before .before .before .before .head-of .ensures) (c .before .before .before .before .before .d .given .1)) (c .before .before .before .fault-in .ensures) (c .before .if1 .taken) (c .low-items .ensures) refl
 
--- src/lib.rt:166:5
 turned-away-requires-2 : tie.Need-turned-away-requires-2
 turned-away-requires-2 c κs = search needs
 
--- src/lib.rt:154:1
 returns-3 : tie.Need-returns-3
 returns-3 c =
     turned-call (c .before .before .before .before .before .before .before .before .before .args .b .now) (c .before .before .before .before .before .before .before .before .before .args .names .now) (c .before .before .before .before .before .before .before .before .before .args .q) (whole (c .before .before .before .before .before .before .before .before .before .args .b .now) (c .before .before .before .before .before .before .before .before .before .args .names .now) (c .before .before .before .before .before .before .before .before .before .args .q) (head-read (c .before .before .before .before .before .before .before .before .before .args .b .now) (length (c .before .before .before .before .before .before .before .before .before .args .names .now)) (c .before .before .before .before .before .before .before .head-of .ensures) (c .before .before .before .before .before .d .given .1)) (c .before .before .before .fault-in .ensures)) (c .before .if1 .left) (c .turned-away2 .ensures)

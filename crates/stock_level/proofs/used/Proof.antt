@@ -13,54 +13,43 @@ use Rattle.rows.proofs.district_used.Reads as district-used-reads
 use Rattle.rows.proofs.stocks_used.Reads as stocks-used-reads
 use Rattle.rows.proofs.window_used.Reads as window-used-reads
 
--- src/lib.rt:44:9
 district-used-requires : tie.Need-district-used-requires
 district-used-requires c κs = search needs
 
--- src/lib.rt:45:9
 refused-requires : tie.Need-refused-requires
 refused-requires c κs = search needs
 
--- src/lib.rt:45:9
 returns : tie.Need-returns
 unfolding levelUsed
 returns c =
     turned-away 9 _ (c .before .before .district-used .ensures) (c .before .if1 .taken) (c .refused .ensures)
 
--- src/lib.rt:47:9
 window-used-requires : tie.Need-window-used-requires
 window-used-requires c κs =
     (c .before .before .pre .0, (c .before .before .pre .1 .0, (c .before .before .pre .1 .1, sym (c .before .district-used .ensures) ∙ not-false (c .before .district-used .result) (c .if1 .left))))
 
--- src/lib.rt:48:9
 refused-requires-2 : tie.Need-refused-requires-2
 refused-requires-2 c κs = search needs
 
--- src/lib.rt:48:9
 returns-2 : tie.Need-returns-2
 unfolding levelUsed
 returns-2 c =
     passed-on 9 _ (c .before .before .before .before .district-used .ensures) (c .before .before .before .if1 .left) (turned-away 9 _ (c .before .before .window-used .ensures) (c .before .if2 .taken) (c .refused2 .ensures))
 
--- src/lib.rt:50:9
 stocks-used-requires : tie.Need-stocks-used-requires
 stocks-used-requires c κs = search needs
 
--- src/lib.rt:51:9
 refused-requires-3 : tie.Need-refused-requires-3
 refused-requires-3 c κs = search needs
 
--- src/lib.rt:51:9
 returns-3 : tie.Need-returns-3
 unfolding levelUsed
 returns-3 c =
     passed-on 9 _ (c .before .before .before .before .before .before .district-used .ensures) (c .before .before .before .before .before .if1 .left) (passed-on 9 _ (c .before .before .before .before .window-used .ensures) (c .before .before .before .if2 .left) (turned-away 9 _ (c .before .before .stocks-used .ensures) (c .before .if3 .taken) (c .refused3 .ensures)))
 
--- src/lib.rt:53:5
 refused-requires-4 : tie.Need-refused-requires-4
 refused-requires-4 c κs = search needs
 
--- src/lib.rt:40:1
 returns-4 : tie.Need-returns-4
 unfolding levelUsed
 returns-4 c =

@@ -16,37 +16,30 @@ Inv-loop s at x i₀ i = (at ≤ i) × ((i ≤ length s) × (without x (take (i 
 abbrev μ-loop : tie.MeasureT-loop
 μ-loop s at x i₀ i = length s - i
 
--- src/lib.rt:34:5
 loop-holds : tie.Need-loop-holds Inv-loop μ-loop
 loop-holds c =
     (search needs, (search needs, part-none (c .args .x) (c .args .s .now) (c .args .at)))
 
--- src/lib.rt:35:12
 shared-slice-read-if1 : tie.Need-shared-slice-read-if1 Inv-loop μ-loop
 shared-slice-read-if1 c =
     search needs
 
--- src/lib.rt:36:13
 returns : tie.Need-returns Inv-loop μ-loop
 returns c =
     ends-at-byte _ _ _ _ (c .before .before .before .loop .inv .0) (c .before .before .loop-test .taken) (c .before .before .before .loop .inv .1 .1) (c .if1 .taken)
 
--- src/lib.rt:38:9
 add-i : tie.Need-add-i Inv-loop μ-loop
 add-i c =
     search needs
 
--- src/lib.rt:34:5
 loop-less : tie.Need-loop-less Inv-loop μ-loop
 loop-less c =
     search needs
 
--- src/lib.rt:34:5
 loop-again : tie.Need-loop-again Inv-loop μ-loop
 loop-again c =
     (search needs, (search needs, part-step _ _ _ _ (c .before .before .before .loop .inv .0) (c .before .before .loop-test .taken) (c .before .before .before .loop .inv .1 .1) (c .if1 .left)))
 
--- src/lib.rt:29:1
 returns-2 : tie.Need-returns-2 Inv-loop μ-loop
 returns-2 c =
     ends-at-end _ _ _ _ (c .before .loop .inv .0) (c .before .loop .inv .1 .0) (c .loop-test .left) (c .before .loop .inv .1 .1)

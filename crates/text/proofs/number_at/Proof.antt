@@ -8,49 +8,38 @@ use Rattle.text.proofs.number_at.Lts as lts
 use Rattle.text.proofs.field_end.Reads as field-end-reads
 use Rattle.text.proofs.number_of.Reads as number-of-reads
 
--- src/lib.rt:91:9
 returns : tie.Need-returns
 returns c =
     none-past _ _ (c .if1 .taken)
 
--- src/lib.rt:93:9
 field-end-requires : tie.Need-field-end-requires
 field-end-requires c κs = search needs
 
--- src/lib.rt:94:38
 sub-number-of : tie.Need-sub-number-of
 sub-number-of c = search needs
 
--- src/lib.rt:94:38
 part-number-of-start : tie.Need-part-number-of-start
 part-number-of-start c = search needs
 
--- src/lib.rt:94:38
 part-number-of-end : tie.Need-part-number-of-end
 part-number-of-end c = search needs
 
--- src/lib.rt:94:28
 number-of-requires : tie.Need-number-of-requires
 number-of-requires c κs = search needs
 
--- src/lib.rt:94:23
 enum-known-v : tie.Need-enum-known-v
 enum-known-v c = search needs
 
--- src/lib.rt:95:9
 enum-told : tie.Need-enum-told
 enum-told c = search needs
 
--- src/lib.rt:95:9
 returns-2 : tie.Need-returns-2
 returns-2 c =
     step-not _ _ _ (c .before .before .before .before .field-end .ensures) (sym (c .before .before .number-of .ensures) ∙ c .enum-told .given .1)
 
--- src/lib.rt:97:20
 add-t5 : tie.Need-add-t5
 add-t5 c = search needs
 
--- src/lib.rt:86:1
 returns-3 : tie.Need-returns-3
 returns-3 c =
     step-is _ _ _ _ (c .before .before .before .before .before .field-end .ensures) (sym (c .before .before .before .number-of .ensures) ∙ c .before .v .given .1)

@@ -19,83 +19,67 @@ Inv-loop f n v₀ i₀ v i = (i ≤ length f) × ((length f ≤ 10) × ((n ≡ l
 abbrev μ-loop : tie.MeasureT-loop
 μ-loop f n v₀ i₀ v i = n - i
 
--- src/lib.rt:63:9
 returns : tie.Need-returns Inv-loop μ-loop
 returns c =
     sym (none-empty _ (c .if1 .taken))
 
--- src/lib.rt:66:9
 returns-2 : tie.Need-returns-2 Inv-loop μ-loop
 returns-2 c =
     sym (none-long _ (c .before .if1 .left) (c .if2 .taken))
 
--- src/lib.rt:68:20
 shared-slice-read-if3 : tie.Need-shared-slice-read-if3 Inv-loop μ-loop
 shared-slice-read-if3 c =
     search needs
 
--- src/lib.rt:69:9
 returns-3 : tie.Need-returns-3 Inv-loop μ-loop
 returns-3 c =
     sym (none-zero _ (c .before .before .before .if1 .left) (c .before .before .if2 .left) (c .if3 .taken))
 
--- src/lib.rt:73:5
 loop-holds : tie.Need-loop-holds Inv-loop μ-loop
 loop-holds c =
     (search needs, (search needs, (search needs, (search needs, digits-all _ (c .before .before .before .if1 .left) (c .before .before .if2 .left) (c .if3 .left)))))
 
--- src/lib.rt:74:22
 shared-slice-read-wide : tie.Need-shared-slice-read-wide Inv-loop μ-loop
 shared-slice-read-wide c =
     search needs
 
--- src/lib.rt:74:13
 wide-requires : tie.Need-wide-requires Inv-loop μ-loop
 wide-requires c κs =
     search needs
 
--- src/lib.rt:75:12
 is-digit-requires : tie.Need-is-digit-requires Inv-loop μ-loop
 is-digit-requires c κs =
     search needs
 
--- src/lib.rt:76:17
 mul-v : tie.Need-mul-v Inv-loop μ-loop
 mul-v c =
     omega (arith, power-top (c .before .before .before .before .before .loop .v) (c .before .before .before .before .before .loop .i) (c .before .before .before .before .before .loop .inv .1 .1 .1 .0) (search needs))
 
--- src/lib.rt:76:27
 sub-v : tie.Need-sub-v Inv-loop μ-loop
 sub-v c =
     omega (arith, digit-in (c .before .before .wide .result) (sym (c .before .is-digit .ensures) ∙ c .if4 .taken) .low)
 
--- src/lib.rt:76:17
 add-v : tie.Need-add-v Inv-loop μ-loop
 add-v c =
     omega (arith, power-top (c .before .before .before .before .before .loop .v) (c .before .before .before .before .before .loop .i) (c .before .before .before .before .before .loop .inv .1 .1 .1 .0) (search needs), digit-in (c .before .before .wide .result) (sym (c .before .is-digit .ensures) ∙ c .if4 .taken) .high)
 
--- src/lib.rt:78:13
 returns-4 : tie.Need-returns-4 Inv-loop μ-loop
 returns-4 c =
     let h : c .before .before .before .before .before .loop .i < length (c .before .before .before .before .before .before .before .before .before .before .before .args .f .now) = search needs in sym (c .before .before .before .before .before .loop .inv .1 .1 .1 .1 ∙ digits-stop _ _ _ _ h (c .before .before .wide .ensures) (sym (c .before .is-digit .ensures) ∙ c .if4 .left))
 
--- src/lib.rt:80:9
 add-i : tie.Need-add-i Inv-loop μ-loop
 add-i c =
     search needs
 
--- src/lib.rt:73:5
 loop-less : tie.Need-loop-less Inv-loop μ-loop
 loop-less c =
     search needs
 
--- src/lib.rt:73:5
 loop-again : tie.Need-loop-again Inv-loop μ-loop
 loop-again c =
     let h : c .before .before .before .before .before .loop .i < length (c .before .before .before .before .before .before .before .before .before .before .before .args .f .now) = search needs in
     (search needs, (search needs, (search needs, (power-step _ _ _ (c .before .before .before .before .before .loop .inv .1 .1 .1 .0) (digit-in _ (sym (c .before .is-digit .ensures) ∙ c .if4 .taken)), c .before .before .before .before .before .loop .inv .1 .1 .1 .1 ∙ digits-step _ _ _ _ h (c .before .before .wide .ensures) (sym (c .before .is-digit .ensures) ∙ c .if4 .taken)))))
 
--- src/lib.rt:58:1
 returns-5 : tie.Need-returns-5 Inv-loop μ-loop
 returns-5 c =
     let h : length (c .before .before .before .before .before .before .before .args .f .now) ≤ c .before .loop .i = search needs in sym (c .before .loop .inv .1 .1 .1 .1 ∙ digits-end _ _ _ h)

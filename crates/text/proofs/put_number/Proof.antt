@@ -10,25 +10,20 @@ use Rattle.text.proofs.put_number.Reads as reads
 use Rattle.text.proofs.put_number.Lts as lts
 use Rattle.text.proofs.put_digits.Reads as put-digits-reads
 
--- src/lib.rt:51:5
 slice-write-line : tie.Need-slice-write-line
 slice-write-line c = search needs
 
--- src/lib.rt:52:22
 add-put-digits : tie.Need-add-put-digits
 add-put-digits c = search needs
 
--- src/lib.rt:52:5
 put-digits-requires : tie.Need-put-digits-requires
 put-digits-requires c κs =
     simp length-set (omega (arith, c .before .before .pre))
 
--- src/lib.rt:47:1
 same-length : tie.Need-same-length
 same-length c =
     c .before .before .put-digits .kept .0 ∙ length-set (c .before .before .before .before .before .args .line .now) (c .before .before .before .before .before .args .at) 9
 
--- src/lib.rt:47:1
 returns : tie.Need-returns
 returns c =
     (one-field _ _ _ _ _ (c .before .before .put-digits .ensures), omega (arith, c .before .before .put-digits .ensures .place, dec-most (c .before .before .before .before .before .args .n)))

@@ -21,42 +21,33 @@ Inv-loop line₀ at numbers p₀ i₀ line p i = (i ≤ 10) × ((length numbers 
 abbrev μ-loop : tie.MeasureT-loop
 μ-loop line₀ at numbers p₀ i₀ line p i = 10 - i
 
--- src/lib.rt:94:5
 loop-holds : tie.Need-loop-holds Inv-loop μ-loop
 loop-holds c =
     (search needs, (search needs, (search needs, (search needs, no-field (c .before .args .line .now) (c .before .args .at)))))
 
--- src/lib.rt:95:30
 mul-put-number : tie.Need-mul-put-number Inv-loop μ-loop
 mul-put-number c = search needs
 
--- src/lib.rt:95:30
 array-read-put-number : tie.Need-array-read-put-number Inv-loop μ-loop
 array-read-put-number c = search needs
 
--- src/lib.rt:95:9
 put-number-requires : tie.Need-put-number-requires Inv-loop μ-loop
 put-number-requires c κs =
     omega (arith, (c .before .before .before .before .pre), c .before .loop-test .taken, c .before .before .loop .inv .1 .1 .0, c .before .before .loop .inv .1 .1 .1 .0, dec-most (getD (c .before .before .before .before .args .t3) (c .before .before .loop .i) 0))
 
--- src/lib.rt:96:9
 add-i : tie.Need-add-i Inv-loop μ-loop
 add-i c = search needs
 
--- src/lib.rt:94:5
 loop-less : tie.Need-loop-less Inv-loop μ-loop
 loop-less c = search needs
 
--- src/lib.rt:94:5
 loop-again : tie.Need-loop-again Inv-loop μ-loop
 loop-again c =
     (search needs, (search needs, (search needs, (omega (arith, c .before .before .put-number .ensures .1, c .before .before .before .before .before .loop .inv .1 .1 .1 .0), number-step _ _ _ _ (c .before .before .before .before .before .loop .i) (positives (c .before .before .before .before .before .before .before .args .t3)) _ _ (omega (arith, c .before .before .before .before .loop-test .taken, c .before .before .before .before .before .loop .inv .1 .0, length-map (c .before .before .before .before .before .before .before .args .t3) pos)) (c .before .before .before .before .before .loop .inv .1 .1 .1 .1) (positive-at _ _ _ _ (c .before .before .before .before .before .loop .i) (c .before .before .before .before .before .before .before .args .t3) (c .before .before .put-number .ensures .0))))))
 
--- src/lib.rt:88:1
 same-length : tie.Need-same-length Inv-loop μ-loop
 same-length c = search needs
 
--- src/lib.rt:88:1
 returns : tie.Need-returns Inv-loop μ-loop
 returns c =
     (number-all _ _ _ _ (c .before .loop .i) (positives (c .before .before .before .args .t3)) (omega (arith, c .loop-test .left, c .before .loop .inv .1 .0, length-map (c .before .before .before .args .t3) pos)) (c .before .loop .inv .1 .1 .1 .1), omega (arith, c .before .loop .inv .0, c .before .loop .inv .1 .1 .1 .0))

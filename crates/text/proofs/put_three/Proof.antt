@@ -9,20 +9,16 @@ use Rattle.text.proofs.put_three.Lts as lts
 use Rattle.text.proofs.put_number.Reads as put-number-reads
 use Rattle.text.proofs.put_two.Reads as put-two-reads
 
--- src/lib.rt:83:9
 put-two-requires : tie.Need-put-two-requires
 put-two-requires c κs = search needs
 
--- src/lib.rt:84:5
 put-number-requires : tie.Need-put-number-requires
 put-number-requires c κs =
     omega (arith, (c .before .before .before .before .before .before .pre), c .before .before .before .put-two .ensures .1, c .before .before .before .put-two .kept, dec-most (c .before .before .before .before .before .before .args .c))
 
--- src/lib.rt:79:1
 same-length : tie.Need-same-length
 same-length c = search needs
 
--- src/lib.rt:79:1
 returns : tie.Need-returns
 returns c =
     (fields-then _ _ _ _ _ _ _ _ (c .before .before .before .before .before .before .put-two .ensures .0) (c .before .before .put-number .ensures .0), omega (arith, c .before .before .before .before .before .before .put-two .ensures .1, c .before .before .put-number .ensures .1))

@@ -8,21 +8,17 @@ use Rattle.text.proofs.put_two.Reads as reads
 use Rattle.text.proofs.put_two.Lts as lts
 use Rattle.text.proofs.put_number.Reads as put-number-reads
 
--- src/lib.rt:74:9
 put-number-requires : tie.Need-put-number-requires
 put-number-requires c κs =
     omega (arith, (c .before .before .pre), dec-most (c .before .before .args .a))
 
--- src/lib.rt:75:5
 put-number-requires-2 : tie.Need-put-number-requires-2
 put-number-requires-2 c κs =
     omega (arith, (c .before .before .before .before .before .before .pre), c .before .before .before .put-number .ensures .1, c .before .before .before .put-number .kept, dec-most (c .before .before .before .before .before .before .args .b))
 
--- src/lib.rt:70:1
 same-length : tie.Need-same-length
 same-length c = search needs
 
--- src/lib.rt:70:1
 returns : tie.Need-returns
 returns c =
     (fields-then _ _ _ _ _ _ _ _ (c .before .before .before .before .before .before .put-number .ensures .0) (c .before .before .put-number2 .ensures .0), omega (arith, c .before .before .before .before .before .before .put-number .ensures .1, c .before .before .put-number2 .ensures .1))

@@ -9,30 +9,24 @@ use Rattle.text.proofs.three_line.Reads as reads
 use Rattle.text.proofs.three_line.Lts as lts
 use Rattle.text.proofs.put_three.Reads as put-three-reads
 
--- src/lib.rt:120:5
 slice-write-line : tie.Need-slice-write-line
 slice-write-line c = search needs
 
--- src/lib.rt:121:9
 put-three-requires : tie.Need-put-three-requires
 put-three-requires c κs =
     simp length-set (omega (arith, (c .before .before .pre)))
 
--- src/lib.rt:122:5
 slice-write-line-2 : tie.Need-slice-write-line-2
 slice-write-line-2 c =
     omega (arith, (c .before .before .before .before .before .pre), c .before .before .put-three .ensures .1, c .before .before .put-three .kept .0, length-set (c .before .before .before .before .before .args .line .now) 0 (c .before .before .before .before .before .args .x))
 
--- src/lib.rt:123:5
 add-result : tie.Need-add-result
 add-result c = search needs
 
--- src/lib.rt:116:1
 same-length : tie.Need-same-length
 same-length c =
     simp length-set (c .before .before .put-three .kept .0 ∙ length-set (c .before .before .before .before .before .args .line .now) 0 (c .before .before .before .before .before .args .x))
 
--- src/lib.rt:116:1
 returns : tie.Need-returns
 returns c =
     (whole-line _ _ _ _ _ (c .before .before .put-three .ensures .0), omega (arith, c .before .before .put-three .ensures .1))

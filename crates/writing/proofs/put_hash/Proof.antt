@@ -11,34 +11,27 @@ use Rattle.writing.proofs.put_hash.Reads as reads
 use Rattle.writing.proofs.put_hash.Lts as lts
 use Rattle.text.proofs.put_digits.Reads as put-digits-reads
 
--- src/lib.rt:615:5
 slice-write-line : tie.Need-slice-write-line
 slice-write-line c = search needs
 
--- src/lib.rt:616:10
 add-line : tie.Need-add-line
 add-line c = search needs
 
--- src/lib.rt:616:5
 slice-write-line-2 : tie.Need-slice-write-line-2
 slice-write-line-2 c =
     simp length-set (omega (arith, (c .before .pre)))
 
--- src/lib.rt:617:22
 add-put-digits : tie.Need-add-put-digits
 add-put-digits c = search needs
 
--- src/lib.rt:617:5
 put-digits-requires : tie.Need-put-digits-requires
 put-digits-requires c κs =
     simp length-set (omega (arith, (c .before .before .pre), dec-most (c .before .before .args .c)))
 
--- src/lib.rt:611:1
 same-length : tie.Need-same-length
 same-length c =
     c .before .before .put-digits .kept .0 ∙ length-set (set (c .before .before .before .before .before .args .line .now) (c .before .before .before .before .before .args .at) 9) (c .before .before .before .before .before .args .at + 1) 35 ∙ length-set (c .before .before .before .before .before .args .line .now) (c .before .before .before .before .before .args .at) 9
 
--- src/lib.rt:611:1
 returns : tie.Need-returns
 returns c =
     (marked-field _ _ _ _ _ _ (c .before .before .put-digits .ensures), omega (arith, c .before .before .put-digits .ensures .place, dec-most (c .before .before .before .before .before .args .c)))

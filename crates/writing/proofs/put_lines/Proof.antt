@@ -22,73 +22,59 @@ Inv-loop line₀ at items supplies quantities n p₀ i₀ line p i = (i ≤ n) �
 abbrev μ-loop : tie.MeasureT-loop
 μ-loop line₀ at items supplies quantities n p₀ i₀ line p i = n - i
 
--- src/lib.rt:694:9
 count-requires : tie.Need-count-requires Inv-loop μ-loop
 count-requires c κs =
     search needs
 
--- src/lib.rt:697:5
 loop-holds : tie.Need-loop-holds Inv-loop μ-loop
 loop-holds c =
     (search needs, (search needs, (search needs, (search needs, (search needs, (search needs, (search needs, no-field (c .before .before .before .before .before .args .line .now) (c .before .before .before .before .before .args .at))))))))
 
--- src/lib.rt:698:32
 mul-put-three : tie.Need-mul-put-three Inv-loop μ-loop
 mul-put-three c =
     search needs
 
--- src/lib.rt:698:32
 shared-slice-read-put-three : tie.Need-shared-slice-read-put-three Inv-loop μ-loop
 shared-slice-read-put-three c =
     search needs
 
--- src/lib.rt:698:42
 mul-put-three-2 : tie.Need-mul-put-three-2 Inv-loop μ-loop
 mul-put-three-2 c =
     search needs
 
--- src/lib.rt:698:42
 shared-slice-read-put-three-2 : tie.Need-shared-slice-read-put-three-2 Inv-loop μ-loop
 shared-slice-read-put-three-2 c =
     search needs
 
--- src/lib.rt:698:55
 mul-put-three-3 : tie.Need-mul-put-three-3 Inv-loop μ-loop
 mul-put-three-3 c =
     search needs
 
--- src/lib.rt:698:55
 shared-slice-read-put-three-3 : tie.Need-shared-slice-read-put-three-3 Inv-loop μ-loop
 shared-slice-read-put-three-3 c =
     search needs
 
--- src/lib.rt:698:9
 put-three-requires : tie.Need-put-three-requires Inv-loop μ-loop
 put-three-requires c κs =
     omega (arith, (c .before .before .before .before .before .before .before .before .before .before .before .pre), c .before .before .before .before .loop-test .taken, c .before .before .before .before .before .loop .inv .1 .0, c .before .before .before .before .before .loop .inv .1 .1 .1 .1 .1 .0, c .before .before .before .before .before .loop .inv .1 .1 .1 .1 .1 .1 .0)
 
--- src/lib.rt:699:9
 add-i : tie.Need-add-i Inv-loop μ-loop
 add-i c =
     search needs
 
--- src/lib.rt:697:5
 loop-less : tie.Need-loop-less Inv-loop μ-loop
 loop-less c =
     search needs
 
--- src/lib.rt:697:5
 loop-again : tie.Need-loop-again Inv-loop μ-loop
 loop-again c =
     let h : c .before .before .before .before .before .before .before .before .loop .i < length (linesOf (c .before .before .before .before .before .before .before .before .before .before .before .before .before .before .args .items .now) (c .before .before .before .before .before .before .before .before .before .before .before .before .before .before .args .supplies .now) (c .before .before .before .before .before .before .before .before .before .before .before .before .before .before .args .quantities .now)) = omega (arith, c .before .before .before .before .before .before .before .loop-test .taken, c .before .before .before .before .before .before .before .before .loop .inv .1 .0) in
     (search needs, (search needs, (search needs, (search needs, (search needs, (search needs, (omega (arith, c .before .before .put-three .ensures .1, c .before .before .before .before .before .before .before .before .loop .inv .1 .1 .1 .1 .1 .1 .0), put-more _ _ _ _ _ _ _ _ _ _ h (c .before .before .before .before .before .before .before .before .loop .inv .1 .1 .1 .1 .1 .1 .1) (c .before .before .put-three .ensures .0))))))))
 
--- src/lib.rt:684:1
 same-length : tie.Need-same-length Inv-loop μ-loop
 same-length c =
     search needs
 
--- src/lib.rt:684:1
 returns : tie.Need-returns Inv-loop μ-loop
 returns c =
     let h : length (linesOf (c .before .before .before .before .before .before .before .args .items .now) (c .before .before .before .before .before .before .before .args .supplies .now) (c .before .before .before .before .before .before .before .args .quantities .now)) ≤ c .before .loop .i = omega (arith, c .loop-test .left, c .before .loop .inv .1 .0) in

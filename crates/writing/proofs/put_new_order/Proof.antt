@@ -11,41 +11,33 @@ use Rattle.writing.proofs.put_new_order.Lts as lts
 use Rattle.writing.proofs.put_lines.Reads as put-lines-reads
 use Rattle.text.proofs.put_two.Reads as put-two-reads
 
--- src/lib.rt:763:5
 slice-write-line : tie.Need-slice-write-line
 slice-write-line c = search needs
 
--- src/lib.rt:764:9
 put-two-requires : tie.Need-put-two-requires
 put-two-requires c κs =
     simp length-set (omega (arith, c .before .before .before .before .before .pre .1))
 
--- src/lib.rt:765:9
 put-two-requires-2 : tie.Need-put-two-requires-2
 put-two-requires-2 c κs =
     omega (arith, c .before .before .before .before .before .before .before .before .before .pre .1, c .before .before .before .put-two .ensures .1, c .before .before .before .put-two .kept .0, length-set (c .before .before .before .before .before .before .before .before .before .args .line .now) 0 78)
 
--- src/lib.rt:766:9
 put-lines-requires : tie.Need-put-lines-requires
 put-lines-requires c κs =
     omega (arith, (c .before .before .before .before .before .before .before .before .before .before .before .before .before .pre), c .before .before .before .before .before .before .before .put-two .ensures .1, c .before .before .before .before .before .before .before .put-two .kept .0, c .before .before .before .put-two2 .ensures .1, c .before .before .before .put-two2 .kept .0, length-set (c .before .before .before .before .before .before .before .before .before .before .before .before .before .args .line .now) 0 78)
 
--- src/lib.rt:767:5
 slice-write-line-2 : tie.Need-slice-write-line-2
 slice-write-line-2 c =
     omega (arith, (c .before .before .before .before .before .before .before .before .before .before .before .before .before .before .before .before .pre), c .before .before .before .before .before .before .before .before .before .before .put-two .ensures .1, c .before .before .before .before .before .before .before .before .before .before .put-two .kept .0, c .before .before .before .before .before .before .put-two2 .ensures .1, c .before .before .before .before .before .before .put-two2 .kept .0, c .before .before .put-lines .ensures .1, c .before .before .put-lines .kept .0, length-set (c .before .before .before .before .before .before .before .before .before .before .before .before .before .before .before .before .args .line .now) 0 78)
 
--- src/lib.rt:768:5
 add-result : tie.Need-add-result
 add-result c =
     omega (arith, c .before .before .before .before .before .before .before .before .before .before .before .before .before .before .before .before .pre .0, c .before .before .before .before .before .before .before .before .before .before .put-two .ensures .1, c .before .before .before .before .before .before .put-two2 .ensures .1, c .before .before .put-lines .ensures .1)
 
--- src/lib.rt:753:1
 same-length : tie.Need-same-length
 same-length c =
     simp length-set (c .before .before .put-lines .kept .0 ∙ c .before .before .before .before .before .before .put-two2 .kept .0 ∙ c .before .before .before .before .before .before .before .before .before .before .put-two .kept .0 ∙ length-set (c .before .before .before .before .before .before .before .before .before .before .before .before .before .before .before .before .args .line .now) 0 78)
 
--- src/lib.rt:753:1
 returns : tie.Need-returns
 unfolding fieldsOf lineOf
 returns c =
