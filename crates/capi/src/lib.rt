@@ -3,7 +3,6 @@ ghost use mathlib.Core.Path.{_≡_};
 ghost use mathlib.Core.List.{[]};
 ghost use Rattle.model.specs.Names.{whoOf};
 ghost use Rattle.model.specs.Answer.{openingSays, newOrderSays, paymentSays, deliverySays, statusSays, stockLevelSays};
-ghost use lib.ListN.{length};
 ghost use Rattle.capi.specs.Flat.{bareOut, oneOut, twoOut, balanceOut, statusOut, selectionOf, newOrderOf, paymentOf, deliveryOf, statusOf, stockLevelOf};
 ghost use Rattle.model.specs.Request.{requestOf, newOrder, payment, delivery, orderStatus, stockLevel, linesOf};
 ghost use Rattle.model.specs.RequestLine.{readLine, stored, writeSays};

@@ -4,7 +4,7 @@ use mathlib.Core.Path.{_≡_, refl, sym, ap, _∙_}
 use mathlib.Core.Bool.{Bool, true, false, cond}
 use mathlib.Core.List.{List, [], _∷_, _++_}
 use Prim.Native.Nat.{ℕ, zero, suc, _+_, _-_, _*_, _≤_, _<_}
-use native.Mathlib.Nat.{add-zero, zero-add, add-assoc}
+use native.Mathlib.Nat.{add-zero, zero-add, add-assoc, le-antisymm}
 use native.Mathlib.Numerals.{add-one}
 use native.Mathlib.Omega.{arith}
 use native.Mathlib.Decide.{decLt}
@@ -168,3 +168,7 @@ largest-same f g zero h = refl
 largest-same f g (suc n) h =
     let p = largest-same f g n (λ j r. h j (record { lo = r .lo; hi = omega (arith, r .hi) })) in
     rw (p, h (suc n) (record { lo = omega arith; hi = omega arith }))
+
+-- what a loop has made at its end
+pub at-end : {A : Type 0} (f : ℕ → A) {x : A} {i n : ℕ} → i ≤ n → n ≤ i → x ≡ f i → x ≡ f n
+at-end f h k e = e ∙ ap f (le-antisymm h k)

@@ -3,7 +3,7 @@
 use mathlib.Core.Path.{_≡_, refl, sym, ap, _∙_}
 use mathlib.Core.List.{List, [], _∷_, _++_}
 use Prim.Native.Nat.{ℕ, zero, suc, _+_, _-_, _*_, _≤_, _<_}
-use native.Mathlib.Nat.{add-zero, zero-add, add-suc, le-antisymm, le-of-suc-le-suc, not-suc-le-zero}
+use native.Mathlib.Nat.{add-zero, zero-add, add-suc, le-of-suc-le-suc, not-suc-le-zero}
 use native.Mathlib.Numerals.{add-one}
 use native.Mathlib.Omega.{arith}
 use lib.IntN.{ℤ, pos}
@@ -17,10 +17,6 @@ use Rattle.model.proofs.Frame.{length-remap}
 use Rattle.model.proofs.Rewrite.{remap-none, remap-more, off, puts, puts-row}
 use Rattle.new_order_steps.specs.Slot.{headNumbers, five, fill}
 use Rattle.model.proofs.Zipped.{noLine}
-
--- a loop's end
-pub at-end : {A : Type 0} (f : ℕ → A) {x : A} {i n : ℕ} → i ≤ n → n ≤ i → x ≡ f i → x ≡ f n
-at-end f h k e = e ∙ ap f (le-antisymm h k)
 
 -- ── m numbers written after k others ──
 pub remap-then : (p k m : ℕ) (f g : ℕ → ℤ → ℤ) (b : List ℤ) → p + (k + m) ≤ length b → ((i : ℕ) (y z : ℤ) → i < m → f (k + i) y ≡ g i z)

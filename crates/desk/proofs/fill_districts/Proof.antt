@@ -4,7 +4,8 @@ use Prim.Native.Nat.{_-_, _≤_}
 use native.Mathlib.Omega.{arith}
 use lib.ListN.{length, length-set}
 use Rattle.desk.specs.Filling.{districtsTo}
-use Rattle.desk.proofs.Filled.{districts-none, districts-step, at-end}
+use Rattle.desk.proofs.Filled.{districts-none, districts-step}
+use Rattle.model.proofs.ListLaws.{at-end}
 use Rattle.desk.proofs.fill_districts.Statement.{statement}
 use Rattle.desk.proofs.fill_districts.Tie as tie
 use Rattle.desk.proofs.fill_districts.Reads as reads

@@ -3,7 +3,8 @@ use mathlib.Core.Path.{_≡_}
 use Prim.Native.Nat.{_-_, _≤_}
 use lib.ListN.{length, length-set}
 use Rattle.desk.specs.Filling.{stocksTo}
-use Rattle.desk.proofs.Filled.{stocks-none, stocks-step, at-end}
+use Rattle.desk.proofs.Filled.{stocks-none, stocks-step}
+use Rattle.model.proofs.ListLaws.{at-end}
 use Rattle.desk.proofs.fill_stocks.Statement.{statement}
 use Rattle.desk.proofs.fill_stocks.Tie as tie
 use Rattle.desk.proofs.fill_stocks.Reads as reads

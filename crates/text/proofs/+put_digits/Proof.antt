@@ -23,7 +23,6 @@ abbrev put-digits-below : ℕ → In 1 put-digits-kinds.ps
 put-digits-below t =
     and 1 put-digits-kinds.ps (falls 1 put-digits-kinds.ps _<_ μ-put-digits t) put-digits.Pre
 
--- src/lib.rt
 put-digits-add-line :
     (t : ℕ) →
     put-digits-lts.Need-add-line
@@ -32,7 +31,6 @@ put-digits-add-line :
     put-digits.Post
 put-digits-add-line t c = omega arith
 
--- src/lib.rt
 put-digits-cast-line :
     (t : ℕ) →
     put-digits-lts.Need-cast-line
@@ -41,28 +39,24 @@ put-digits-cast-line :
     put-digits.Post
 put-digits-cast-line t c = omega arith
 
--- src/lib.rt
 put-digits-slice-write-line : (t : ℕ) → put-digits-lts.Need-slice-write-line (
   put-digits-below t,
   put-digits.Post,
 ) (put-digits-at t) put-digits.Post
 put-digits-slice-write-line t c = omega (arith, c .before .before .pre .1, length-small (c .before .before .args .n) (c .if1 .taken))
 
--- src/lib.rt
 put-digits-add-result : (t : ℕ) → put-digits-lts.Need-add-result (
   put-digits-below t,
   put-digits.Post,
 ) (put-digits-at t) put-digits.Post
 put-digits-add-result t c = omega (arith, c .before .before .pre .1, length-small (c .before .before .args .n) (c .if1 .taken))
 
--- src/lib.rt
 put-digits-same-length : (t : ℕ) → put-digits-lts.Need-same-length (
   put-digits-below t,
   put-digits.Post,
 ) (put-digits-at t) put-digits.Post
 put-digits-same-length t c = simp length-set
 
--- src/lib.rt
 put-digits-returns :
     (t : ℕ) →
     put-digits-lts.Need-returns
@@ -71,49 +65,42 @@ put-digits-returns :
     put-digits.Post
 put-digits-returns t c = record { same = rw (dec-small (c .before .before .args .n) (c .if1 .taken), mod-eq-of-lt (c .if1 .taken)); place = omega (arith, length-small (c .before .before .args .n) (c .if1 .taken)) }
 
--- src/lib.rt
 put-digits-put-digits-requires : (t : ℕ) → put-digits-lts.Need-put-digits-requires (
   put-digits-below t,
   put-digits.Post,
 ) (put-digits-at t) put-digits.Post
 put-digits-put-digits-requires t c κs = let a = c .before .before .before in let u : a .args .n < 100000000000000000000 = omega (arith, a .good .1 .1 .0) in (omega (arith, a .pre .0), omega (arith, a .pre .1, length-more (a .args .n) (c .before .if1 .left) u))
 
--- src/lib.rt
 put-digits-add-line-2 : (t : ℕ) → put-digits-lts.Need-add-line-2 (
   put-digits-below t,
   put-digits.Post,
 ) (put-digits-at t) put-digits.Post
 put-digits-add-line-2 t c = omega arith
 
--- src/lib.rt
 put-digits-cast-line-2 : (t : ℕ) → put-digits-lts.Need-cast-line-2 (
   put-digits-below t,
   put-digits.Post,
 ) (put-digits-at t) put-digits.Post
 put-digits-cast-line-2 t c = omega arith
 
--- src/lib.rt
 put-digits-slice-write-line-2 : (t : ℕ) → put-digits-lts.Need-slice-write-line-2 (
   put-digits-below t,
   put-digits.Post,
 ) (put-digits-at t) put-digits.Post
 put-digits-slice-write-line-2 t c = let a = c .before .before .before .before .before .before in let u : a .args .n < 100000000000000000000 = omega (arith, a .good .1 .1 .0) in let r = c .before .before .put-digits in let h = c .before .before .before .before .if1 .left in omega (arith, a .pre .1, r .kept .0, r .ensures .place, length-more (a .args .n) h u)
 
--- src/lib.rt
 put-digits-add-result-2 : (t : ℕ) → put-digits-lts.Need-add-result-2 (
   put-digits-below t,
   put-digits.Post,
 ) (put-digits-at t) put-digits.Post
 put-digits-add-result-2 t c = let a = c .before .before .before .before .before .before in let u : a .args .n < 100000000000000000000 = omega (arith, a .good .1 .1 .0) in let r = c .before .before .put-digits in let h = c .before .before .before .before .if1 .left in omega (arith, a .pre .1, r .kept .0, r .ensures .place, length-more (a .args .n) h u, a .good .0 .0)
 
--- src/lib.rt
 put-digits-same-length-2 : (t : ℕ) → put-digits-lts.Need-same-length-2 (
   put-digits-below t,
   put-digits.Post,
 ) (put-digits-at t) put-digits.Post
 put-digits-same-length-2 t c = let a = c .before .before .before .before .before .before in let u : a .args .n < 100000000000000000000 = omega (arith, a .good .1 .1 .0) in let r = c .before .before .put-digits in let h = c .before .before .before .before .if1 .left in simp length-set (r .kept .0)
 
--- src/lib.rt
 put-digits-returns-2 : (t : ℕ) → put-digits-lts.Need-returns-2 (
   put-digits-below t,
   put-digits.Post,
