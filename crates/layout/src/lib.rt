@@ -13,31 +13,27 @@ ghost use Rattle.layout.specs.Runs.{rowIn, RunOf, SectionRun};
 use model::Dims;
 
 // The five numbers that fix the size are in their ranges.
-fn dims_ok(d: Dims) -> bool
-    ensures { λ r. ⌜ r ≡ every (dimsTests d) ⌝ }
+fn dims_ok(b: &[i64]) -> bool
+    requires { ⌜ 6 ≤ length (now b) ⌝ }
+    ensures { λ r. ⌜ r ≡ every (dimsTests (dims (now (b .entry)))) ⌝ }
 {
-    (1 <= d.warehouses)
-        & (d.warehouses <= 20)
-        & (1 <= d.customers)
-        & (d.customers <= 3000)
-        & (1 <= d.items)
-        & (d.items <= 100000)
-        & (1 <= d.orders)
-        & (d.orders <= 10000)
-        & (1 <= d.histories)
-        & (d.histories <= 1000000)
+    cells::one_to(b, 0, 20)
+        & cells::one_to(b, 1, 3000)
+        & cells::one_to(b, 2, 100000)
+        & cells::one_to(b, 3, 10000)
+        & cells::one_to(b, 4, 1000000)
 }
 
-// The five numbers that fix the size.
+// The five numbers, which have been found in their ranges.
 fn dims_of(b: &[i64]) -> Dims
-    requires { ⌜ 6 ≤ length (now b) ⌝ }
+    requires { ⌜ (6 ≤ length (now b)) × Dimensioned (dims (now b)) ⌝ }
     ensures { λ r. ⌜ r ≡ dims (now (b .entry)) ⌝ }
 {
-    let warehouses = cells::get(b, 0);
-    let customers = cells::get(b, 1);
-    let items = cells::get(b, 2);
-    let orders = cells::get(b, 3);
-    let histories = cells::get(b, 4);
+    let warehouses = cells::held(b, 0);
+    let customers = cells::held(b, 1);
+    let items = cells::held(b, 2);
+    let orders = cells::held(b, 3);
+    let histories = cells::held(b, 4);
     Dims {
         warehouses,
         customers,
@@ -134,10 +130,10 @@ pub fn head_of(b: &[i64], names: &[u8]) -> Head
     if b.len() < 6 {
         return Head::Damaged;
     }
-    let d = dims_of(b);
-    if !dims_ok(d) {
+    if !dims_ok(b) {
         return Head::Damaged;
     }
+    let d = dims_of(b);
     let wide = names.len() as u64;
     if !sizes_ok(b, wide, d) {
         return Head::Damaged;

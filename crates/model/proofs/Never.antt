@@ -34,7 +34,7 @@ use Rattle.model.specs.StockLevel.{levelAsked, levelUsed, stockLevelFaul
 use Rattle.model.specs.Request.{Request, newOrder, payment, delivery, orderStatus, stockLevel, lent, faultOf, numsAfter}
 use Rattle.model.specs.Tally.{Tally, N, M, charged, count, doneAll}
 use Rattle.model.specs.Claim.{R, Never}
-use Rattle.model.proofs.TestLaws.{every-each, each-every, and-left, and-right, all-to, PassAt, Need, not-answered, in-range}
+use Rattle.model.proofs.TestLaws.{every-each, each-every, and-left, and-right, all-to, PassAt, Need, not-answered, in-within, in-range}
 use Rattle.model.proofs.NumberLaws.{nat-pos}
 use Rattle.model.proofs.Fields.{Dimensioned, head-num}
 use Rattle.model.proofs.RowFacts.{WarehouseIn, DistrictIn, CustomerIn, ItemIn, StockIn, OrderIn, in-warehouse, in-district, in-customer, in-item, in-stock, at-customers, at-orders, all-in-map, none-failing, in-all-of}
@@ -77,18 +77,12 @@ dims-pass : (d : Dims) → Dimensioned d → every (dimsTests d) ≡ true
 unfolding dimsTests
 dims-pass d h =
     each-every (dimsTests d) (
-      le-leb _ _ (h .warehouses-low),
+      in-within (d .warehouses) 1 20 (h .warehouses-low) (h .warehouses-high),
       (
-        le-leb _ _ (h .warehouses-high),
+        in-within (d .customers) 1 3000 (h .customers-low) (h .customers-high),
         (
-          le-leb _ _ (h .customers-low),
-          (
-            le-leb _ _ (h .customers-high),
-            (
-              le-leb _ _ (h .items-low),
-              (le-leb _ _ (h .items-high), (le-leb _ _ (h .orders-low), (le-leb _ _ (h .orders-high), (le-leb _ _ (h .histories-low), (le-leb _ _ (h .histories-high), tt))))),
-            ),
-          ),
+          in-within (d .items) 1 100000 (h .items-low) (h .items-high),
+          (in-within (d .orders) 1 10000 (h .orders-low) (h .orders-high), (in-within (d .histories) 1 1000000 (h .histories-low) (h .histories-high), tt)),
         ),
       ),
     )

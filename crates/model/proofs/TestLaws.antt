@@ -9,7 +9,7 @@ use native.Mathlib.Omega.{arith}
 use native.Mathlib.Decide.{ℕ-discrete}
 use native.Mathlib.Numerals.{add-one}
 use lib.Dec.{leb, ltb, eqb}
-use borrow.Author.Tests.{leb-true, ltb-true, eqb-false, not-true, not-false}
+use borrow.Author.Tests.{leb-true, le-leb, ltb-true, eqb-false, not-true, not-false}
 use Rattle.model.specs.declared.Refusal.{Refusal}
 use Rattle.model.specs.Tests.{andAll, every, within, allTo, Check, chk, bare, refusal, fault, staged}
 use Rattle.model.specs.Claim.{R}
@@ -54,6 +54,9 @@ each-every (b ∷ bs) r = andAll-of b bs (r .0) (r .1)
 -- ── a number in its range ──
 pub within-in : (x low top : ℕ) → within x low top ≡ true → (low ≤ x) × (x ≤ top)
 within-in x low top e = let h = every-each (leb low x ∷ leb x top ∷ []) e in (leb-true _ _ (h .0), leb-true _ _ (h .1 .0))
+
+pub in-within : (x low top : ℕ) → low ≤ x → x ≤ top → within x low top ≡ true
+in-within x low top h k = rw (le-leb low x h, le-leb x top k)
 
 pub in-range : (x top : ℕ) → within x 1 top ≡ true → R top x
 in-range x top e = let h = within-in x 1 top e in record { lo = h .0; hi = h .1 }
