@@ -3,28 +3,18 @@
 use mathlib.Core.Path.{_≡_}
 use mathlib.Core.Bool.{Bool, _&&_, cond}
 use mathlib.Core.List.{List, [], _++_}
-use Prim.Native.Nat.{ℕ, _+_}
+use Prim.Native.Nat.{ℕ}
 use lib.Dec.{leb}
 use lib.IntN.{ℤ}
 use lib.ListN.{length, drop}
-use lib.Seq.{sets}
 use Rattle.model.specs.declared.RequestOutcome.{RequestOutcome}
 use Rattle.model.specs.declared.RequestOutcome.the-variants as RequestCase
 use Rattle.model.specs.Answer.{requestSays}
+use Rattle.model.specs.Text.{textOf}
 use Rattle.model.specs.Names.{byNumber}
 use Rattle.model.specs.Request.{Request, newOrder, payment, delivery, orderStatus, stockLevel}
-use Rattle.model.specs.RequestLine.{letter, tabbed}
-use Rattle.model.specs.AnswerLine.{signeds, told, textOf}
-
--- bytes stored from a place on, and the place after them
-pub record Wrote (old new : List ℕ) (at next : ℕ) (xs : List ℕ) : Type 0 where
-  pub same : new ≡ sets old at xs
-  pub place : next ≡ at + length xs
-
--- numbers, each after its tab
-pub record Put (old new : List ℕ) (at next : ℕ) (zs : List ℤ) : Type 0 where
-  pub same : new ≡ sets old at (tabbed (signeds zs))
-  pub place : next ≡ at + length (tabbed (signeds zs))
+use Rattle.model.specs.RequestLine.{letter}
+use Rattle.model.specs.AnswerLine.{told}
 
 -- a request of the kind that an outcome answers; what is printed depends on its kind alone
 abbrev pub sample : RequestOutcome → Request
@@ -48,3 +38,8 @@ withLine t text buffer = cond t (text ++ drop (length text) buffer) buffer
 
 abbrev pub lengthIf : Bool → List ℕ → ℕ
 lengthIf t text = cond t (length text) 0
+
+-- what a writer of answers leaves: a line where there is room, and its length
+pub record Answered (t : Bool) (text old new : List ℕ) (n : ℕ) : Type 0 where
+  pub long : n ≡ lengthIf t text
+  pub bytes : new ≡ withLine t text old

@@ -1,11 +1,12 @@
 // Answers written as the program prints them: a letter, numbers each after a tab, byte 10.
-ghost use mathlib.Core.Path.{_≡_};
 ghost use mathlib.Core.List.{[], _∷_};
-ghost use Prim.Native.Nat.{_+_, _*_, _≤_, _<_};
-ghost use lib.IntN.{pos, natAbs};
+ghost use Prim.Native.Nat.{_+_, _*_, _≤_};
+ghost use lib.IntN.{pos};
 ghost use lib.ListN.{length};
-ghost use Rattle.model.specs.AnswerLine.{decimals, positives, textOf, noFormLine};
-ghost use Rattle.answers.specs.Writing.{Wrote, Put, outcomeLine, hasRoom, withLine, lengthIf};
+ghost use Rattle.model.specs.Text.{signeds, positives, tabbed, textOf};
+ghost use Rattle.model.specs.AnswerLine.{noFormLine};
+ghost use Rattle.text.specs.Writing.{Wrote};
+ghost use Rattle.answers.specs.Writing.{Answered, outcomeLine, hasRoom};
 ghost use Rattle.model.specs.declared.RequestOutcome.the-variants as RequestCase;
 use model::DeliveryOutcome;
 use model::NewOrderOutcome;
@@ -15,94 +16,16 @@ use model::StatusFigures;
 use model::StatusOutcome;
 use model::StockLevelOutcome;
 
-// The digits of a number written from a place on; the place after them.
-fn put_digits(line: &mut [u8], at: usize, n: u64) -> usize
-    requires { ⌜ (n < 100000000000000000000) × (at + length (decimals n) ≤ length (now line)) ⌝ }
-    ensures { λ r. ⌜ Wrote (now (line .entry)) (now (line .exit)) at r (decimals n) ⌝ }
-{
-    if n < 10 {
-        line[at] = (48 + n % 10) as u8;
-        return at + 1;
-    }
-    let p = put_digits(&mut line[..], at, n / 10);
-    line[p] = (48 + n % 10) as u8;
-    p + 1
-}
-
-// A number without its sign.
-fn magnitude(z: i64) -> u64
-    ensures { λ r. ⌜ r ≡ natAbs z ⌝ }
-{
-    if z < 0 {
-        return (-1 - z) as u64 + 1;
-    }
-    z as u64
-}
-
-// A tab and a number.
-fn put_nat(line: &mut [u8], at: usize, n: u64) -> usize
-    requires { ⌜ at + 21 ≤ length (now line) ⌝ }
-    ensures { λ r. ⌜ Put (now (line .entry)) (now (line .exit)) at r (pos n ∷ []) × (r ≤ at + 21) ⌝ }
-{
-    line[at] = 9;
-    put_digits(line, at + 1, n)
-}
-
-// A tab and a signed number.
-fn put_int(line: &mut [u8], at: usize, z: i64) -> usize
-    requires { ⌜ at + 21 ≤ length (now line) ⌝ }
-    ensures { λ r. ⌜ Put (now (line .entry)) (now (line .exit)) at r (z ∷ []) × (r ≤ at + 21) ⌝ }
-{
-    let n = magnitude(z);
-    line[at] = 9;
-    if z < 0 {
-        line[at + 1] = 45;
-        return put_digits(line, at + 2, n);
-    }
-    put_digits(line, at + 1, n)
-}
-
-// Two numbers.
-fn put_two(line: &mut [u8], at: usize, a: u64, b: u64) -> usize
-    requires { ⌜ at + 42 ≤ length (now line) ⌝ }
-    ensures { λ r. ⌜ Put (now (line .entry)) (now (line .exit)) at r (pos a ∷ pos b ∷ []) × (r ≤ at + 42) ⌝ }
-{
-    let p = put_nat(line, at, a);
-    put_nat(line, p, b)
-}
-
-// Three numbers.
-fn put_three(line: &mut [u8], at: usize, a: u64, b: u64, c: u64) -> usize
-    requires { ⌜ at + 63 ≤ length (now line) ⌝ }
-    ensures { λ r. ⌜ Put (now (line .entry)) (now (line .exit)) at r (pos a ∷ pos b ∷ pos c ∷ []) × (r ≤ at + 63) ⌝ }
-{
-    let p = put_two(line, at, a, b);
-    put_nat(line, p, c)
-}
-
-// Ten order numbers.
-fn put_orders(line: &mut [u8], at: usize, orders: [u64; 10]) -> usize
-    requires { ⌜ at + 210 ≤ length (now line) ⌝ }
-    ensures { λ r. ⌜ Put (now (line .entry)) (now (line .exit)) at r (positives orders) × (r ≤ at + 210) ⌝ }
-{
-    let mut p = at;
-    let mut i = 0;
-    while i < 10 {
-        p = put_nat(line, p, orders[i]);
-        i += 1;
-    }
-    p
-}
-
 // The numbers of a shown part.
 fn put_shown(line: &mut [u8], at: usize, shown: &[i64]) -> usize
     requires { ⌜ at + 21 * length (now shown) ≤ length (now line) ⌝ }
-    ensures { λ r. ⌜ Put (now (line .entry)) (now (line .exit)) at r (now (shown .entry)) × (r ≤ at + 21 * length (now (shown .entry))) ⌝ }
+    ensures { λ r. ⌜ Wrote (now (line .entry)) (now (line .exit)) at r (tabbed (signeds (now (shown .entry))))
+        × (r ≤ at + 21 * length (now (shown .entry))) ⌝ }
 {
     let mut p = at;
     let mut i = 0;
     while i < shown.len() {
-        p = put_int(line, p, shown[i]);
+        p = text::put_signed(line, p, shown[i]);
         i += 1;
     }
     p
@@ -114,18 +37,7 @@ fn two_line(line: &mut [u8], x: u8, a: u64, b: u64) -> usize
     ensures { λ r. ⌜ Wrote (now (line .entry)) (now (line .exit)) 0 r (textOf x (pos a ∷ pos b ∷ [])) × (r ≤ 2048) ⌝ }
 {
     line[0] = x;
-    let p = put_two(line, 1, a, b);
-    line[p] = 10;
-    p + 1
-}
-
-// New-Order's line: order and total.
-fn new_order_line(line: &mut [u8], order: u64, total: u64) -> usize
-    requires { ⌜ 2048 ≤ length (now line) ⌝ }
-    ensures { λ r. ⌜ Wrote (now (line .entry)) (now (line .exit)) 0 r (textOf 78 (pos 0 ∷ pos order ∷ pos total ∷ [])) × (r ≤ 2048) ⌝ }
-{
-    line[0] = 78;
-    let p = put_three(line, 1, 0, order, total);
+    let p = text::put_two(line, 1, a, b);
     line[p] = 10;
     p + 1
 }
@@ -136,8 +48,8 @@ fn payment_line(line: &mut [u8], customer: u64, balance: i64) -> usize
     ensures { λ r. ⌜ Wrote (now (line .entry)) (now (line .exit)) 0 r (textOf 80 (pos 0 ∷ pos customer ∷ balance ∷ [])) × (r ≤ 2048) ⌝ }
 {
     line[0] = 80;
-    let a = put_two(line, 1, 0, customer);
-    let p = put_int(line, a, balance);
+    let a = text::put_two(line, 1, 0, customer);
+    let p = text::put_signed(line, a, balance);
     line[p] = 10;
     p + 1
 }
@@ -148,8 +60,8 @@ fn delivery_line(line: &mut [u8], skipped: u64, orders: [u64; 10]) -> usize
     ensures { λ r. ⌜ Wrote (now (line .entry)) (now (line .exit)) 0 r (textOf 68 (pos 0 ∷ pos skipped ∷ positives orders)) × (r ≤ 2048) ⌝ }
 {
     line[0] = 68;
-    let a = put_two(line, 1, 0, skipped);
-    let p = put_orders(line, a, orders);
+    let a = text::put_two(line, 1, 0, skipped);
+    let p = text::put_ten(line, a, orders);
     line[p] = 10;
     p + 1
 }
@@ -157,12 +69,14 @@ fn delivery_line(line: &mut [u8], skipped: u64, orders: [u64; 10]) -> usize
 // Order-Status's line: customer, balance, order, date, carrier and five fields a line.
 fn status_line(line: &mut [u8], f: StatusFigures, shown: &[i64]) -> usize
     requires { ⌜ (2048 ≤ length (now line)) × (length (now shown) ≤ 75) ⌝ }
-    ensures { λ r. ⌜ Wrote (now (line .entry)) (now (line .exit)) 0 r (textOf 83 (pos 0 ∷ pos (f .customer) ∷ f .balance ∷ pos (f .order) ∷ pos (f .date) ∷ pos (f .carrier) ∷ now (shown .entry))) × (r ≤ 2048) ⌝ }
+    ensures { λ r. ⌜ Wrote (now (line .entry)) (now (line .exit)) 0 r
+        (textOf 83 (pos 0 ∷ pos (f .customer) ∷ f .balance ∷ pos (f .order) ∷ pos (f .date) ∷ pos (f .carrier) ∷ now (shown .entry)))
+        × (r ≤ 2048) ⌝ }
 {
     line[0] = 83;
-    let a = put_two(line, 1, 0, f.customer);
-    let c = put_int(line, a, f.balance);
-    let d = put_three(line, c, f.order, f.date, f.carrier);
+    let a = text::put_two(line, 1, 0, f.customer);
+    let c = text::put_signed(line, a, f.balance);
+    let d = text::put_three(line, c, f.order, f.date, f.carrier);
     let p = put_shown(line, d, shown);
     line[p] = 10;
     p + 1
@@ -174,7 +88,7 @@ fn tell_new_order(line: &mut [u8], o: NewOrderOutcome) -> usize
     ensures { λ r. ⌜ Wrote (now (line .entry)) (now (line .exit)) 0 r (outcomeLine (RequestCase.NewOrder o) [] []) × (r ≤ 2048) ⌝ }
 {
     match o {
-        NewOrderOutcome::Committed(f) => new_order_line(line, f.order, f.total),
+        NewOrderOutcome::Committed(f) => text::three_line(line, 78, 0, f.order, f.total),
         NewOrderOutcome::Refused(r) => two_line(line, 78, r.number, r.detail),
     }
 }
@@ -239,7 +153,8 @@ fn tell(line: &mut [u8], o: RequestOutcome, orders: [u64; 10], shown: &[i64]) ->
 
 // The line of an answer written to the front of a buffer of at least 2,048 bytes; its length, or 0 where there is no room.
 pub fn write_answer(buffer: &mut [u8], o: RequestOutcome, orders: [u64; 10], shown: &[i64]) -> usize
-    ensures { λ r. ⌜ (r ≡ lengthIf (hasRoom (now (buffer .entry)) (now (shown .entry))) (outcomeLine o orders (now (shown .entry)))) × (now (buffer .exit) ≡ withLine (hasRoom (now (buffer .entry)) (now (shown .entry))) (outcomeLine o orders (now (shown .entry))) (now (buffer .entry))) ⌝ }
+    ensures { λ r. ⌜ Answered (hasRoom (now (buffer .entry)) (now (shown .entry))) (outcomeLine o orders (now (shown .entry)))
+        (now (buffer .entry)) (now (buffer .exit)) r ⌝ }
 {
     if buffer.len() < 2048 {
         return 0;
@@ -252,7 +167,7 @@ pub fn write_answer(buffer: &mut [u8], o: RequestOutcome, orders: [u64; 10], sho
 
 // The line that a line without a form is answered.
 pub fn write_no_form(buffer: &mut [u8]) -> usize
-    ensures { λ r. ⌜ (r ≡ lengthIf (hasRoom (now (buffer .entry)) []) noFormLine) × (now (buffer .exit) ≡ withLine (hasRoom (now (buffer .entry)) []) noFormLine (now (buffer .entry))) ⌝ }
+    ensures { λ r. ⌜ Answered (hasRoom (now (buffer .entry)) []) noFormLine (now (buffer .entry)) (now (buffer .exit)) r ⌝ }
 {
     if buffer.len() < 2048 {
         return 0;

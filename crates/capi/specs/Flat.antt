@@ -1,6 +1,6 @@
 -- An answer as flat numbers: document 01's number, 0 where committed, its detail, then the figures, 0 where refused.
 -- Assumes nothing.
-use mathlib.Core.Bool.{Bool, true, false, cond}
+use mathlib.Core.Bool.{Bool, cond}
 use mathlib.Core.List.{List, [], _∷_}
 use Prim.Native.Nat.{ℕ}
 use lib.IntN.{ℤ, pos}

@@ -1,3 +1,4 @@
 -- What the contracts of the crate cite beside the model.
+pub mod Calls
 pub mod Flat
 pub mod FlatLines

@@ -3,18 +3,11 @@ ghost use mathlib.Core.Path.{_≡_};
 ghost use mathlib.Core.List.{[]};
 ghost use Rattle.model.specs.Names.{whoOf};
 ghost use Rattle.model.specs.Answer.{openingSays, newOrderSays, paymentSays, deliverySays, statusSays, stockLevelSays};
-ghost use Rattle.model.specs.Opening.{openingAnswer};
-ghost use Rattle.model.specs.NewOrder.{newOrderAnswer, newOrderBook};
-ghost use Rattle.model.specs.Payment.{paymentAnswer, paymentBook};
-ghost use Rattle.model.specs.Delivery.{deliveryAnswer, deliveryOrders, deliveryBook};
-ghost use Rattle.model.specs.OrderStatus.{statusAnswer, statusLines};
-ghost use Rattle.model.specs.StockLevel.{stockLevelAnswer};
-ghost use Prim.Native.Nat.{_+_, _≤_};
-ghost use lib.ListN.{length, getD, take};
-ghost use Rattle.capi.specs.Flat.{bareOut, oneOut, twoOut, balanceOut, statusOut, partIn, selectionOf, newOrderOf, paymentOf, deliveryOf, statusOf, stockLevelOf};
+ghost use Rattle.capi.specs.Flat.{bareOut, oneOut, twoOut, balanceOut, statusOut, selectionOf, newOrderOf, paymentOf, deliveryOf, statusOf, stockLevelOf};
 ghost use Rattle.model.specs.Request.{requestOf, newOrder, payment, delivery, orderStatus, stockLevel, linesOf};
-ghost use Rattle.model.specs.RequestLine.{readLine, stored, writeSays, writeAnswer, writeBuffer};
+ghost use Rattle.model.specs.RequestLine.{readLine, stored, writeSays};
 ghost use Rattle.model.specs.declared.Form.the-variants as Form;
+ghost use Rattle.capi.specs.Calls.{OpeningC, NewOrderC, PaymentC, DeliveryC, StatusC, StockLevelC, ReadC, WriteC};
 ghost use Rattle.capi.specs.FlatLines.{namedOut, numberOut, formOut, readOut};
 use model::Delivery;
 use model::DeliveryOutcome;
@@ -35,7 +28,7 @@ use model::StockLevelOutcome;
 use model::WriteOutcome;
 
 // Who: by the last name that is lent beside, or by the number.
-pub fn selection(named: bool, number: u64) -> Selection
+fn selection(named: bool, number: u64) -> Selection
     ensures { λ r. ⌜ r ≡ selectionOf named number ⌝ }
 {
     if named {
@@ -45,7 +38,7 @@ pub fn selection(named: bool, number: u64) -> Selection
 }
 
 // Opening's answer: number, detail.
-pub fn opening_out(o: OpeningOutcome) -> [u64; 2]
+fn opening_out(o: OpeningOutcome) -> [u64; 2]
     ensures { λ r. ⌜ r ≡ bareOut (openingSays o) ⌝ }
 {
     match o {
@@ -57,7 +50,7 @@ pub fn opening_out(o: OpeningOutcome) -> [u64; 2]
 // Opening.
 #[no_mangle]
 pub extern "C" fn book_opening(nums: &[i64], names: &[u8], out: &mut [u64; 2])
-    ensures { λ _. ⌜ now (out .exit) ≡ bareOut (openingAnswer (now (nums .entry)) (now (names .entry))) ⌝ }
+    ensures { λ _. ⌜ OpeningC (now (nums .entry)) (now (names .entry)) (now (out .exit)) ⌝ }
 {
     let a = opening::opening(nums, names);
     let o = a.outcome;
@@ -65,7 +58,7 @@ pub extern "C" fn book_opening(nums: &[i64], names: &[u8], out: &mut [u64; 2])
 }
 
 // New-Order's answer: number, detail, order, total.
-pub fn new_order_out(o: NewOrderOutcome) -> [u64; 4]
+fn new_order_out(o: NewOrderOutcome) -> [u64; 4]
     ensures { λ r. ⌜ r ≡ twoOut (newOrderSays o) ⌝ }
 {
     match o {
@@ -75,7 +68,7 @@ pub fn new_order_out(o: NewOrderOutcome) -> [u64; 4]
 }
 
 // New-Order's answer, put into the lent numbers.
-pub fn put_new_order(out: &mut [u64; 4], a: NewOrderAnswer)
+fn put_new_order(out: &mut [u64; 4], a: NewOrderAnswer)
     ensures { λ _. ⌜ now (out .exit) ≡ twoOut (newOrderSays (a .outcome)) ⌝ }
 {
     let o = a.outcome;
@@ -94,7 +87,8 @@ pub extern "C" fn book_new_order(
     lines: &[Line],
     out: &mut [u64; 4],
 )
-    ensures { λ _. ⌜ (now (out .exit) ≡ twoOut (newOrderAnswer (now (nums .entry)) (now (names .entry)) (newOrderOf warehouse district customer date) (now (lines .entry)))) × (now (nums .exit) ≡ newOrderBook (now (nums .entry)) (now (names .entry)) (newOrderOf warehouse district customer date) (now (lines .entry))) ⌝ }
+    ensures { λ _. ⌜ NewOrderC (now (nums .entry)) (now (names .entry)) (newOrderOf warehouse district customer date) (now (lines .entry))
+        (now (out .exit)) (now (nums .exit)) ⌝ }
 {
     let q = NewOrder {
         warehouse,
@@ -107,7 +101,7 @@ pub extern "C" fn book_new_order(
 }
 
 // Payment's answer: number, detail, customer.
-pub fn payment_out(o: PaymentOutcome) -> [u64; 3]
+fn payment_out(o: PaymentOutcome) -> [u64; 3]
     ensures { λ r. ⌜ r ≡ oneOut (paymentSays o) ⌝ }
 {
     match o {
@@ -117,7 +111,7 @@ pub fn payment_out(o: PaymentOutcome) -> [u64; 3]
 }
 
 // Payment's answer: the balance.
-pub fn payment_balance(o: PaymentOutcome) -> [i64; 1]
+fn payment_balance(o: PaymentOutcome) -> [i64; 1]
     ensures { λ r. ⌜ r ≡ balanceOut (paymentSays o) ⌝ }
 {
     match o {
@@ -143,7 +137,8 @@ pub extern "C" fn book_payment(
     out: &mut [u64; 3],
     balance: &mut [i64; 1],
 )
-    ensures { λ _. ⌜ (now (out .exit) ≡ oneOut (paymentAnswer (now (nums .entry)) (now (names .entry)) (paymentOf warehouse district custwarehouse custdistrict date amount) (whoOf (selectionOf named number) (now (name .entry))))) × ((now (balance .exit) ≡ balanceOut (paymentAnswer (now (nums .entry)) (now (names .entry)) (paymentOf warehouse district custwarehouse custdistrict date amount) (whoOf (selectionOf named number) (now (name .entry))))) × (now (nums .exit) ≡ paymentBook (now (nums .entry)) (now (names .entry)) (paymentOf warehouse district custwarehouse custdistrict date amount) (whoOf (selectionOf named number) (now (name .entry))))) ⌝ }
+    ensures { λ _. ⌜ PaymentC (now (nums .entry)) (now (names .entry)) (paymentOf warehouse district custwarehouse custdistrict date amount)
+        (whoOf (selectionOf named number) (now (name .entry))) (now (out .exit)) (now (balance .exit)) (now (nums .exit)) ⌝ }
 {
     let q = Payment {
         warehouse,
@@ -161,7 +156,7 @@ pub extern "C" fn book_payment(
 }
 
 // Delivery's answer: number, detail, skip count, mark.
-pub fn delivery_out(o: DeliveryOutcome) -> [u64; 4]
+fn delivery_out(o: DeliveryOutcome) -> [u64; 4]
     ensures { λ r. ⌜ r ≡ twoOut (deliverySays o) ⌝ }
 {
     match o {
@@ -181,7 +176,8 @@ pub extern "C" fn book_delivery(
     out: &mut [u64; 4],
     orders: &mut [u64; 10],
 )
-    ensures { λ _. ⌜ (now (out .exit) ≡ twoOut (deliveryAnswer (now (nums .entry)) (now (names .entry)) (deliveryOf warehouse carrier date))) × ((now (orders .exit) ≡ deliveryOrders (now (nums .entry)) (now (names .entry)) (deliveryOf warehouse carrier date)) × (now (nums .exit) ≡ deliveryBook (now (nums .entry)) (now (names .entry)) (deliveryOf warehouse carrier date))) ⌝ }
+    ensures { λ _. ⌜ DeliveryC (now (nums .entry)) (now (names .entry)) (deliveryOf warehouse carrier date)
+        (now (out .exit)) (now (orders .exit)) (now (nums .exit)) ⌝ }
 {
     let q = Delivery {
         warehouse,
@@ -196,7 +192,7 @@ pub extern "C" fn book_delivery(
 }
 
 // Order-Status's answer: number, detail, customer, order, date, carrier, then the shown part.
-pub fn status_out(o: StatusOutcome, from: u64, count: u64) -> [u64; 8]
+fn status_out(o: StatusOutcome, from: u64, count: u64) -> [u64; 8]
     ensures { λ r. ⌜ r ≡ statusOut (statusSays o) from count ⌝ }
 {
     match o {
@@ -206,7 +202,7 @@ pub fn status_out(o: StatusOutcome, from: u64, count: u64) -> [u64; 8]
 }
 
 // Order-Status's answer: the balance.
-pub fn status_balance(o: StatusOutcome) -> [i64; 1]
+fn status_balance(o: StatusOutcome) -> [i64; 1]
     ensures { λ r. ⌜ r ≡ balanceOut (statusSays o) ⌝ }
 {
     match o {
@@ -228,7 +224,8 @@ pub extern "C" fn book_order_status(
     out: &mut [u64; 8],
     balance: &mut [i64; 1],
 )
-    ensures { λ _. ⌜ (take 6 (now (out .exit)) ≡ take 6 (statusOut (statusAnswer (now (nums .entry)) (now (names .entry)) (statusOf warehouse district) (whoOf (selectionOf named number) (now (name .entry)))) 0 0)) × ((now (balance .exit) ≡ balanceOut (statusAnswer (now (nums .entry)) (now (names .entry)) (statusOf warehouse district) (whoOf (selectionOf named number) (now (name .entry))))) × ((getD (now (out .exit)) 6 0 + getD (now (out .exit)) 7 0 ≤ length (now (nums .entry))) × (partIn (now (out .exit)) (now (nums .entry)) ≡ statusLines (now (nums .entry)) (now (names .entry)) (statusOf warehouse district) (whoOf (selectionOf named number) (now (name .entry)))))) ⌝ }
+    ensures { λ _. ⌜ StatusC (now (nums .entry)) (now (names .entry)) (statusOf warehouse district) (whoOf (selectionOf named number) (now (name .entry)))
+        (now (out .exit)) (now (balance .exit)) ⌝ }
 {
     let q = OrderStatus {
         warehouse,
@@ -243,7 +240,7 @@ pub extern "C" fn book_order_status(
 }
 
 // Stock-Level's answer: number, detail, count.
-pub fn stock_level_out(o: StockLevelOutcome) -> [u64; 3]
+fn stock_level_out(o: StockLevelOutcome) -> [u64; 3]
     ensures { λ r. ⌜ r ≡ oneOut (stockLevelSays o) ⌝ }
 {
     match o {
@@ -262,7 +259,7 @@ pub extern "C" fn book_stock_level(
     threshold: u64,
     out: &mut [u64; 3],
 )
-    ensures { λ _. ⌜ now (out .exit) ≡ oneOut (stockLevelAnswer (now (nums .entry)) (now (names .entry)) (stockLevelOf warehouse district threshold)) ⌝ }
+    ensures { λ _. ⌜ StockLevelC (now (nums .entry)) (now (names .entry)) (stockLevelOf warehouse district threshold) (now (out .exit)) ⌝ }
 {
     let q = StockLevel {
         warehouse,
@@ -275,7 +272,7 @@ pub extern "C" fn book_stock_level(
 }
 
 // 1 where who is given by the last name, else 0.
-pub fn named_out(s: Selection) -> u64
+fn named_out(s: Selection) -> u64
     ensures { λ r. ⌜ r ≡ namedOut s ⌝ }
 {
     match s {
@@ -285,7 +282,7 @@ pub fn named_out(s: Selection) -> u64
 }
 
 // The customer number that who is given by, 0 where by the last name.
-pub fn number_out(s: Selection) -> u64
+fn number_out(s: Selection) -> u64
     ensures { λ r. ⌜ r ≡ numberOut s ⌝ }
 {
     match s {
@@ -417,7 +414,7 @@ fn form_out(form: Form, count: u64, length: u64) -> [u64; 13]
 }
 
 // What reading answers.
-pub fn read_out(o: ReadOutcome, count: u64, length: u64) -> [u64; 13]
+fn read_out(o: ReadOutcome, count: u64, length: u64) -> [u64; 13]
     ensures { λ r. ⌜ r ≡ readOut o count length ⌝ }
 {
     match o {
@@ -436,7 +433,8 @@ pub extern "C" fn book_read_line(
     quantities: &mut [u64; 15],
     name: &mut [u8; 16],
 )
-    ensures { λ _. ⌜ (now (out .exit) ≡ readOut (stored (readLine (now (line .entry))) .outcome) (stored (readLine (now (line .entry))) .lines .count) (stored (readLine (now (line .entry))) .name .length)) × ((now (items .exit) ≡ stored (readLine (now (line .entry))) .lines .items) × ((now (supplies .exit) ≡ stored (readLine (now (line .entry))) .lines .supplies) × ((now (quantities .exit) ≡ stored (readLine (now (line .entry))) .lines .quantities) × (now (name .exit) ≡ stored (readLine (now (line .entry))) .name .bytes)))) ⌝ }
+    ensures { λ _. ⌜ ReadC (stored (readLine (now (line .entry))))
+        (now (out .exit)) (now (items .exit)) (now (supplies .exit)) (now (quantities .exit)) (now (name .exit)) ⌝ }
 {
     let a = lines::read_line(line);
     let o = a.outcome;
@@ -454,7 +452,7 @@ pub extern "C" fn book_read_line(
 }
 
 // What writing answers: number, detail, length.
-pub fn write_out(o: WriteOutcome) -> [u64; 3]
+fn write_out(o: WriteOutcome) -> [u64; 3]
     ensures { λ r. ⌜ r ≡ oneOut (writeSays o) ⌝ }
 {
     match o {
@@ -476,7 +474,9 @@ pub extern "C" fn book_write_new_order(
     quantities: &[u64],
     out: &mut [u64; 3],
 )
-    ensures { λ _. ⌜ (now (out .exit) ≡ oneOut (writeAnswer (now (buffer .entry)) (newOrder (newOrderOf warehouse district customer date) (linesOf (now (items .entry)) (now (supplies .entry)) (now (quantities .entry)))))) × (now (buffer .exit) ≡ writeBuffer (now (buffer .entry)) (newOrder (newOrderOf warehouse district customer date) (linesOf (now (items .entry)) (now (supplies .entry)) (now (quantities .entry))))) ⌝ }
+    ensures { λ _. ⌜ WriteC (now (buffer .entry))
+        (newOrder (newOrderOf warehouse district customer date) (linesOf (now (items .entry)) (now (supplies .entry)) (now (quantities .entry))))
+        (now (out .exit)) (now (buffer .exit)) ⌝ }
 {
     let form = Form::NewOrder(NewOrder {
         warehouse,
@@ -492,7 +492,9 @@ pub extern "C" fn book_write_new_order(
 
 // A request without lines written: its form, and the last name beside it.
 fn write_bare(buffer: &mut [u8], form: Form, name: &[u8]) -> [u64; 3]
-    ensures { λ r. ⌜ (r ≡ oneOut (writeAnswer (now (buffer .entry)) (requestOf form [] (now (name .entry))))) × (now (buffer .exit) ≡ writeBuffer (now (buffer .entry)) (requestOf form [] (now (name .entry)))) ⌝ }
+    ensures { λ r. ⌜ WriteC (now (buffer .entry))
+        (requestOf form [] (now (name .entry)))
+        r (now (buffer .exit)) ⌝ }
 {
     let none = [0u64; 1];
     let empty = &none[0..0];
@@ -516,7 +518,9 @@ pub extern "C" fn book_write_payment(
     amount: u64,
     out: &mut [u64; 3],
 )
-    ensures { λ _. ⌜ (now (out .exit) ≡ oneOut (writeAnswer (now (buffer .entry)) (payment (paymentOf warehouse district custwarehouse custdistrict date amount) (whoOf (selectionOf named number) (now (name .entry)))))) × (now (buffer .exit) ≡ writeBuffer (now (buffer .entry)) (payment (paymentOf warehouse district custwarehouse custdistrict date amount) (whoOf (selectionOf named number) (now (name .entry))))) ⌝ }
+    ensures { λ _. ⌜ WriteC (now (buffer .entry))
+        (payment (paymentOf warehouse district custwarehouse custdistrict date amount) (whoOf (selectionOf named number) (now (name .entry))))
+        (now (out .exit)) (now (buffer .exit)) ⌝ }
 {
     let q = Payment {
         warehouse,
@@ -540,7 +544,9 @@ pub extern "C" fn book_write_delivery(
     date: u64,
     out: &mut [u64; 3],
 )
-    ensures { λ _. ⌜ (now (out .exit) ≡ oneOut (writeAnswer (now (buffer .entry)) (delivery (deliveryOf warehouse carrier date)))) × (now (buffer .exit) ≡ writeBuffer (now (buffer .entry)) (delivery (deliveryOf warehouse carrier date))) ⌝ }
+    ensures { λ _. ⌜ WriteC (now (buffer .entry))
+        (delivery (deliveryOf warehouse carrier date))
+        (now (out .exit)) (now (buffer .exit)) ⌝ }
 {
     let form = Form::Delivery(Delivery {
         warehouse,
@@ -562,7 +568,9 @@ pub extern "C" fn book_write_order_status(
     name: &[u8],
     out: &mut [u64; 3],
 )
-    ensures { λ _. ⌜ (now (out .exit) ≡ oneOut (writeAnswer (now (buffer .entry)) (orderStatus (statusOf warehouse district) (whoOf (selectionOf named number) (now (name .entry)))))) × (now (buffer .exit) ≡ writeBuffer (now (buffer .entry)) (orderStatus (statusOf warehouse district) (whoOf (selectionOf named number) (now (name .entry))))) ⌝ }
+    ensures { λ _. ⌜ WriteC (now (buffer .entry))
+        (orderStatus (statusOf warehouse district) (whoOf (selectionOf named number) (now (name .entry))))
+        (now (out .exit)) (now (buffer .exit)) ⌝ }
 {
     let q = OrderStatus {
         warehouse,
@@ -582,7 +590,9 @@ pub extern "C" fn book_write_stock_level(
     threshold: u64,
     out: &mut [u64; 3],
 )
-    ensures { λ _. ⌜ (now (out .exit) ≡ oneOut (writeAnswer (now (buffer .entry)) (stockLevel (stockLevelOf warehouse district threshold)))) × (now (buffer .exit) ≡ writeBuffer (now (buffer .entry)) (stockLevel (stockLevelOf warehouse district threshold))) ⌝ }
+    ensures { λ _. ⌜ WriteC (now (buffer .entry))
+        (stockLevel (stockLevelOf warehouse district threshold))
+        (now (out .exit)) (now (buffer .exit)) ⌝ }
 {
     let form = Form::StockLevel(StockLevel {
         warehouse,

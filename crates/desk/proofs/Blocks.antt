@@ -1,21 +1,59 @@
--- Input in blocks, byte by byte.
+-- Input in blocks: two blocks in turn are cut as one, and lines leave what the requests that they hold leave.
 -- Assumes nothing.
-use mathlib.Core.Path.{_≡_, refl, ap, _∙_}
+use mathlib.Core.Path.{_≡_, refl, sym, ap, _∙_}
 use mathlib.Core.Bool.{Bool, true, false, cond}
-use mathlib.Core.List.{List, []}
-use Prim.Native.Nat.{ℕ, suc, _+_, _≤_, _<_}
+use mathlib.Core.List.{List, [], _∷_, _++_}
+use Prim.Native.Nat.{ℕ, suc, _+_, _-_, _≤_, _<_}
 use native.Mathlib.Numerals.{add-one}
 use native.Mathlib.Omega.{arith}
-use lib.Dec.{eqb}
+use lib.Dec.{leb, eqb}
 use lib.IntN.{ℤ}
-use lib.ListN.{length, getD, take, drop, set, drop-of-length-le}
-use lib.Seq.{drop-cons, length-take-le, take-suc-set}
-use borrow.Author.Tests.{lt-ltb, le-ltb}
-use Rattle.model.specs.Request.{lent}
-use Rattle.model.specs.RequestLine.{readLine}
+use lib.ListN.{length, getD, take, drop, set, length-drop}
+use lib.Seq.{length-take-le, take-suc, take-add, getD-drop, take-suc-set}
+use borrow.Author.Tests.{le-leb, lt-ltb, le-ltb, eq-eqb, ne-eqb}
+use Rattle.model.specs.Request.{Lent, lent}
+use Rattle.model.specs.RequestLine.{Reading, read, noForm, readLine}
 use Rattle.model.specs.AnswerLine.{leftAfter}
-use Rattle.desk.specs.Input.{kept, bookAfter, lineAfter}
+use Rattle.model.specs.Tally.{afterAll}
+use Rattle.desk.specs.Step.{Stepped}
+use Rattle.desk.specs.Input.{kept, linesIn, lineAfter, leftBy, withRequest, requestsIn, between, Started, CutOff, FedIn}
 
+-- ── two blocks in turn ──
+pub lines-append : (xs ys p : List ℕ) → linesIn p (xs ++ ys) ≡ linesIn p xs ++ linesIn (lineAfter p xs) ys
+unfolding linesIn lineAfter
+lines-append [] ys p = refl
+lines-append (x ∷ xs) ys p = rw (lines-append xs ys [], lines-append xs ys (kept p x)) (go (eqb x 10))
+  where
+    go : (t : Bool) → cond t (kept p x ∷ linesIn [] xs ++ linesIn (lineAfter [] xs) ys) (linesIn (kept p x) xs ++ linesIn (lineAfter (kept p x) xs) ys)
+        ≡ cond t (kept p x ∷ linesIn [] xs) (linesIn (kept p x) xs) ++ linesIn (cond t (lineAfter [] xs) (lineAfter (kept p x) xs)) ys
+    go true = refl
+    go false = refl
+
+pub line-append : (xs ys p : List ℕ) → lineAfter p (xs ++ ys) ≡ lineAfter (lineAfter p xs) ys
+unfolding lineAfter
+line-append [] ys p = refl
+line-append (x ∷ xs) ys p = rw (line-append xs ys [], line-append xs ys (kept p x)) (go (eqb x 10))
+  where
+    go : (t : Bool) → cond t (lineAfter (lineAfter [] xs) ys) (lineAfter (lineAfter (kept p x) xs) ys) ≡ lineAfter (cond t (lineAfter [] xs) (lineAfter (kept p x) xs)) ys
+    go true = refl
+    go false = refl
+
+pub left-append : (s : Lent) (ls ms : List (List ℕ)) → leftBy s (ls ++ ms) ≡ leftBy (leftBy s ls) ms
+unfolding leftBy
+left-append s [] ms = refl
+left-append s (l ∷ ls) ms = left-append (leftAfter s (readLine l)) ls ms
+
+-- lines leave what the requests that they hold leave
+pub left-requests : (s : Lent) (ls : List (List ℕ)) → leftBy s ls ≡ afterAll s (requestsIn ls)
+unfolding leftBy requestsIn leftAfter
+left-requests s [] = refl
+left-requests s (l ∷ ls) = left-requests (leftAfter s (readLine l)) ls ∙ go (readLine l)
+  where
+    go : (x : Reading) → afterAll (leftAfter s x) (requestsIn ls) ≡ afterAll s (withRequest x (requestsIn ls))
+    go (read r) = refl
+    go noForm = refl
+
+-- ── a byte ──
 -- a byte kept, and one dropped
 pub kept-more : (line : List ℕ) (n x : ℕ) → n < 1024 → length line ≡ 1024 → take (n + 1) (set line n x) ≡ kept (take n line) x
 kept-more line n x h e =
@@ -27,42 +65,124 @@ kept-full line n x h k e =
     let l : length (take n line) ≡ n = length-take-le n line (omega arith) in
     rw (l, le-ltb n 1024 h)
 
--- a turn: the byte at i, the line kept and the book that it leaves
-module _ (names block : List ℕ) (i : ℕ) (h : i < length block) where
-  pub book-turn : (b b' : List ℤ) (p line : List ℕ) (n n' : ℕ) → take n line ≡ kept p (getD block i 0) → n' ≡ cond (eqb (getD block i 0) 10) 0 n
-      → b' ≡ cond (eqb (getD block i 0) 10) (leftAfter (lent b names) (readLine (take n line)) .nums) b
-      → bookAfter b names p (drop i block) ≡ bookAfter b' names (take n' line) (drop (i + 1) block)
-  unfolding bookAfter
-  book-turn b b' p line n n' e f g =
-      rw (drop-cons block i 0 h, add-one i, ← e, f, g) (go (eqb (getD block i 0) 10))
-    where
-      go : (t : Bool) → cond t (bookAfter (leftAfter (lent b names) (readLine (take n line)) .nums) names [] (drop (suc i) block)) (bookAfter b names (take n line) (drop (suc i) block))
-          ≡ bookAfter (cond t (leftAfter (lent b names) (readLine (take n line)) .nums) b) names (take (cond t 0 n) line) (drop (suc i) block)
-      go true = refl
-      go false = refl
+split-between : (block : List ℕ) (at next : ℕ) → at ≤ next → take next block ≡ take at block ++ between block at next
+split-between block at next h =
+    let e : at + (next - at) ≡ next = omega arith in
+    ap (λ (k : ℕ). take k block) (sym e) ∙ take-add at (next - at) block
 
-  pub line-turn : (p line : List ℕ) (n n' : ℕ) → take n line ≡ kept p (getD block i 0) → n' ≡ cond (eqb (getD block i 0) 10) 0 n
-      → lineAfter p (drop i block) ≡ lineAfter (take n' line) (drop (i + 1) block)
+-- no line is ended by the bytes taken so far
+pub record Unended (p block : List ℕ) (at : ℕ) (line : List ℕ) (n i : ℕ) : Type 0 where
+  pub room : length line ≡ 1024
+  pub short : n ≤ 1024
+  pub onward : at ≤ i
+  pub place : i ≤ length block
+  pub lines : linesIn p (between block at i) ≡ []
+  pub rest : lineAfter p (between block at i) ≡ take n line
+
+between-suc : (block : List ℕ) (at i : ℕ) → at ≤ i → i < length block → between block at (i + 1) ≡ between block at i ++ (getD block i 0 ∷ [])
+between-suc block at i h k =
+    let e : i + 1 - at ≡ suc (i - at) = omega arith in
+    let f : at + (i - at) ≡ i = omega arith in
+    rw (e, take-suc (drop at block) (i - at) 0 (simp length-drop (omega arith)), getD-drop at block (i - at) 0, f)
+
+not-so : {A : Type 0} → true ≡ false → A
+not-so e = absurd (let q : _≡_ {A = ℕ} 0 1 = cc in omega arith)
+
+module _ (p block : List ℕ) (at : ℕ) (line line' : List ℕ) (n n' i : ℕ) (u : Unended p block at line n i) (h : i < length block)
+    (k : take n' line' ≡ kept (take n line) (getD block i 0)) (short : n' ≤ 1024) where
+  byte-lines : linesIn p (between block at (i + 1)) ≡ cond (eqb (getD block i 0) 10) (take n' line' ∷ []) []
+  unfolding linesIn
+  byte-lines = rw (between-suc block at i (u .onward) h, lines-append (between block at i) (getD block i 0 ∷ []) p, u .lines, u .rest, k)
+
+  byte-rest : lineAfter p (between block at (i + 1)) ≡ cond (eqb (getD block i 0) 10) [] (take n' line')
   unfolding lineAfter
-  line-turn p line n n' e f = rw (drop-cons block i 0 h, add-one i, ← e, f) (go (eqb (getD block i 0) 10))
-    where
-      go : (t : Bool) → cond t (lineAfter [] (drop (suc i) block)) (lineAfter (take n line) (drop (suc i) block)) ≡ lineAfter (take (cond t 0 n) line) (drop (suc i) block)
-      go true = refl
-      go false = refl
+  byte-rest = rw (between-suc block at i (u .onward) h, line-append (between block at i) (getD block i 0 ∷ []) p, u .rest, k)
 
--- the end of a block
-pub book-end : (b : List ℤ) (names p block : List ℕ) (i : ℕ) → length block ≤ i → bookAfter b names p (drop i block) ≡ b
-unfolding bookAfter
-book-end b names p block i h = rw (drop-of-length-le block h)
+  pub byte-ends : getD block i 0 ≡ 10 → CutOff p block at line' n' (i + 1) true
+  byte-ends e =
+      let t : eqb (getD block i 0) 10 ≡ true = eq-eqb (getD block i 0) 10 e in
+      record {
+        short = short;
+        place = omega arith;
+        onward = omega (arith, u .onward);
+        lines = byte-lines ∙ rw t;
+        rest = byte-rest ∙ rw t;
+        whole = not-so;
+      }
 
-pub line-end : (p block : List ℕ) (i : ℕ) → length block ≤ i → lineAfter p (drop i block) ≡ p
-unfolding lineAfter
-line-end p block i h = rw (drop-of-length-le block h)
+  pub byte-goes : (getD block i 0 ≡ 10 → ⊥) → length line' ≡ 1024 → Unended p block at line' n' (i + 1)
+  byte-goes e room =
+      let t : eqb (getD block i 0) 10 ≡ false = ne-eqb (getD block i 0) 10 e in
+      record {
+        room = room;
+        short = short;
+        onward = omega (arith, u .onward);
+        place = omega arith;
+        lines = byte-lines ∙ rw t;
+        rest = byte-rest ∙ rw t;
+      }
 
--- a line's length after a turn
-pub shorter : (t : Bool) (n m : ℕ) → n ≤ 1024 → m ≡ cond t 0 n → m ≤ 1024
-shorter true n m h e = omega arith
-shorter false n m h e = omega arith
+-- before a byte, and at the block's end
+pub none-taken : (line : List ℕ) (len : ℕ) (block : List ℕ) (at : ℕ) → Started line len block at → Unended (take len line) block at line len at
+unfolding linesIn lineAfter
+none-taken line len block at o =
+    let e : at - at ≡ 0 = omega arith in
+    record { room = o .room; short = o .short; onward = omega arith; place = o .place; lines = rw e; rest = rw e }
 
-pub not-open : {A : Type 0} → false ≡ true → A
-not-open e = absurd (let q : _≡_ {A = ℕ} 0 1 = cc in omega arith)
+pub all-taken : (p block : List ℕ) (at : ℕ) (line : List ℕ) (n i : ℕ) → Unended p block at line n i → length block ≤ i → CutOff p block at line n i false
+all-taken p block at line n i u h =
+    record { short = u .short; place = u .place; onward = omega (arith, u .onward); lines = u .lines; rest = u .rest; whole = λ e. omega (arith, u .place) }
+
+-- ── a line ──
+-- all that is lent after a line, from its parts
+left-parts : (b b' : List ℤ) (names : List ℕ) (x : Reading) → b' ≡ leftAfter (lent b names) x .nums → lent b' names ≡ leftAfter (lent b names) x
+unfolding leftAfter
+left-parts b b' names (read r) e = ap (λ (k : List ℤ). lent k names) e
+left-parts b b' names noForm e = ap (λ (k : List ℤ). lent k names) e
+
+pub left-line : (b b' : List ℤ) (names line old new : List ℕ) (len n : ℕ) → length old ≡ 2048 → Stepped (lent b names) (take (len - 0) line) old new n (lent b' names)
+    → lent b' names ≡ leftAfter (lent b names) (readLine (take len line))
+left-line b b' names line old new len n h w =
+    let e : len - 0 ≡ len = omega arith in
+    let r : leb 2048 (length old) ≡ true = le-leb 2048 (length old) (omega arith) in
+    left-parts b b' names (readLine (take len line)) (rw (r, e) at (w .nums))
+
+-- a block up to a place between two cuts: the lines that it ends there are answered
+pub record FedUpTo (s₀ : Lent) (p block : List ℕ) (s : Lent) (line : List ℕ) (n at : ℕ) : Type 0 where
+  pub room : length line ≡ 1024
+  pub short : n ≤ 1024
+  pub place : at ≤ length block
+  pub rest : lineAfter p (take at block) ≡ take n line
+  pub left : leftBy s₀ (linesIn p (take at block)) ≡ s
+
+pub none-fed : (s : Lent) (line : List ℕ) (len : ℕ) (block : List ℕ) → Started line len block 0 → FedUpTo s (take len line) block s line len 0
+unfolding linesIn lineAfter leftBy
+none-fed s line len block o = record { room = o .room; short = o .short; place = o .place; rest = refl; left = refl }
+
+module _ (s₀ : Lent) (p block : List ℕ) (s : Lent) (line line' : List ℕ) (n n' at at' : ℕ) (ended : Bool)
+    (u : FedUpTo s₀ p block s line n at) (c : CutOff (take n line) block at line' n' at' ended) where
+  up-to : take at' block ≡ take at block ++ between block at at'
+  up-to = split-between block at at' (omega (arith, c .onward))
+
+  cut-rest : lineAfter p (take at' block) ≡ cond ended [] (take n' line')
+  cut-rest = rw (up-to, line-append (take at block) (between block at at') p, u .rest) (c .rest)
+
+  cut-left : leftBy s₀ (linesIn p (take at' block)) ≡ leftBy s (cond ended (take n' line' ∷ []) [])
+  cut-left =
+      rw (up-to, lines-append (take at block) (between block at at') p, left-append s₀ (linesIn p (take at block)) (linesIn (lineAfter p (take at block)) (between block at at')), u .left, u .rest, c .lines)
+
+  -- the cut line is answered
+  pub line-fed : (left : Lent) → ended ≡ true → left ≡ leftAfter s (readLine (take n' line')) → length line' ≡ 1024 → FedUpTo s₀ p block left line' 0 at'
+  unfolding leftBy
+  line-fed left e f room = record { room = room; short = omega arith; place = c .place; rest = rw e at cut-rest; left = rw e at cut-left ∙ sym f }
+
+  -- no line ended: the block is used up
+  pub block-fed : ended ≡ false → FedIn s₀ p block line' n' at' true s
+  unfolding leftBy
+  block-fed e =
+      record { short = c .short; place = c .place; whole = λ _. c .whole e; rest = sym (rw e at cut-rest); nums = ap (λ (k : Lent). k .nums) (sym (rw e at cut-left)) }
+
+-- the output is closed
+pub closed-fed : (s₀ : Lent) (p block : List ℕ) (s : Lent) (line : List ℕ) (n at : ℕ) → FedUpTo s₀ p block s line n at → FedIn s₀ p block line n at false s
+closed-fed s₀ p block s line n at u =
+    record { short = u .short; place = u .place; whole = λ e. not-so (sym e); rest = sym (u .rest); nums = ap (λ (k : Lent). k .nums) (sym (u .left)) }

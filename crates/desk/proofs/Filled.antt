@@ -1,17 +1,13 @@
 -- The stores that fill the program's book give document 01's.
 -- Assumes nothing.
-use mathlib.Core.Path.{_≡_, refl, ap, _∙_}
+use mathlib.Core.Path.{_≡_, refl}
 use mathlib.Core.List.{List}
-use Prim.Native.Nat.{ℕ, _+_, _*_, _%_, _≤_}
-use native.Mathlib.Nat.{le-antisymm}
+use Prim.Native.Nat.{ℕ, _+_, _*_, _%_}
 use native.Mathlib.Numerals.{add-one}
 use lib.IntN.{ℤ, pos}
 use lib.ListN.{set, getD, replicate}
 use Rattle.model.proofs.Listing.{programBook, programNames}
 use Rattle.desk.specs.Filling.{headTo, districtsTo, pricesTo, stocksTo, twoNames, namesTo}
-
-pub at-end : {A : Type 0} (f : ℕ → A) {x : A} {i n : ℕ} → i ≤ n → n ≤ i → x ≡ f i → x ≡ f n
-at-end f h k e = e ∙ ap f (le-antisymm h k)
 
 pub districts-none : (b : List ℤ) → b ≡ districtsTo 0 b
 unfolding districtsTo

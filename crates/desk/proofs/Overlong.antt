@@ -6,21 +6,20 @@ use mathlib.Core.List.{List, [], _∷_, _++_, append-nil, append-assoc}
 use Prim.Native.Nat.{ℕ, zero, suc, _+_, _-_, _*_, _≤_, _<_}
 use native.Mathlib.Omega.{arith}
 use lib.Dec.{leb, ltb, eqb}
-use lib.IntN.{ℤ}
 use lib.ListN.{length, getD, take, length-append}
 use lib.Seq.{take-all, take-at, length-take-le}
 use borrow.Author.Tests.{leb-true, le-leb, le-ltb, ltb-true, ltb-false, not-true}
 use Rattle.model.specs.declared.Line.{Line}
 use Rattle.model.specs.Names.{Who, byNumber, byName}
 use Rattle.model.specs.Tests.{allOf}
-use Rattle.model.specs.Request.{Request, newOrder, payment, delivery, orderStatus, stockLevel}
-use Rattle.model.specs.RequestLine.{isDigit, isNumber, isPrintable, isName, hasDigits, decimal, hasWho, whoField, lineSmall, hasForm, lineFields, fieldsOf, tabbed, lineOf, Reading, read, noForm, readLine}
-use Rattle.model.specs.Request.{lent}
+use Rattle.model.specs.Request.{Request, newOrder, payment, delivery, orderStatus, stockLevel, Lent}
+use Rattle.model.specs.Text.{isDigit, isNumber, hasDigits, decimal, tabbed, lineText}
+use Rattle.model.specs.RequestLine.{isPrintable, isName, hasWho, whoField, lineSmall, hasForm, lineFields, fieldsOf, lineOf, Reading, read, noForm, readLine}
 use Rattle.model.specs.AnswerLine.{leftAfter}
 use Rattle.model.proofs.TestLaws.{every-each, and-left, and-right}
 use Rattle.model.proofs.DecimalLaws.{number-written}
 use Rattle.model.proofs.LineLaws.{written-read}
-use Rattle.desk.specs.Input.{kept, bookAfter}
+use Rattle.desk.specs.Input.{kept, linesIn, leftBy}
 
 -- ── the length of a request's line ──
 abbrev short : List ℕ → Bool
@@ -52,6 +51,7 @@ long-lines [] = refl
 long-lines (l ∷ ls) = omega (arith, long-lines ls)
 
 tabbed-most : (fs : List (List ℕ)) → allOf short fs ≡ true → length (tabbed fs) ≤ 18 * length fs
+unfolding tabbed
 tabbed-most [] e = omega arith
 tabbed-most (f ∷ fs) e =
     let s : length f ≤ 17 = leb-true (length f) 17 (and-left (short f) (allOf short fs) e) in
@@ -86,7 +86,7 @@ fields-few (stockLevel q) e =
     record { each = rw (short-decimal (q .warehouse) (h .0), short-decimal (q .district) (h .1 .0), short-decimal (q .threshold) (h .1 .1 .0)); most = omega arith }
 
 line-most : (r : Request) → hasForm r ≡ true → length (lineOf r) ≤ 1024
-unfolding lineOf
+unfolding lineOf lineText
 line-most r e =
     let f = fields-few r e in
     omega (arith, f .most, tabbed-most (fieldsOf r) (f .each), length-append (tabbed (fieldsOf r)) (10 ∷ []))
@@ -148,13 +148,13 @@ read-kept s e = go (ltb (length s) 1024) refl
         let l : length (take 1024 s) ≡ 1024 = length-take-le 1024 s h in
         ap readLine (full (take 1024 s) 10 (omega arith)) ∙ unended (take 1024 s) (no-ten-take 1024 s e) ∙ sym (overlong (s ++ (10 ∷ [])) (omega (arith, length-append s (10 ∷ []))))
 
-ended : (b : List ℤ) (names p s rest : List ℕ) → noTen s ≡ true → bookAfter b names p (s ++ 10 ∷ rest) ≡ bookAfter (leftAfter (lent b names) (readLine (kept (keptAll p s) 10)) .nums) names [] rest
-unfolding bookAfter
-ended b names p [] rest e = refl
-ended b names p (x ∷ s) rest e =
-    rw (not-true (eqb x 10) (and-left (not (eqb x 10)) (noTen s) e)) (ended b names (kept p x) s rest (and-right (not (eqb x 10)) (noTen s) e))
+ended : (p s rest : List ℕ) → noTen s ≡ true → linesIn p (s ++ 10 ∷ rest) ≡ kept (keptAll p s) 10 ∷ linesIn [] rest
+unfolding linesIn
+ended p [] rest e = refl
+ended p (x ∷ s) rest e = rw (not-true (eqb x 10) (and-left (not (eqb x 10)) (noTen s) e)) (ended (kept p x) s rest (and-right (not (eqb x 10)) (noTen s) e))
 
 -- each line of the input leaves what the model says of the whole line, however long it is
-pub line-by-line : (b : List ℤ) (names s rest : List ℕ) → noTen s ≡ true → bookAfter b names [] (s ++ 10 ∷ rest) ≡ bookAfter (leftAfter (lent b names) (readLine (s ++ (10 ∷ []))) .nums) names [] rest
-line-by-line b names s rest e =
-    ended b names [] s rest e ∙ ap (λ (x : Reading). bookAfter (leftAfter (lent b names) x .nums) names [] rest) (ap (λ (p : List ℕ). readLine (kept p 10)) (kept-all s [] (omega arith)) ∙ read-kept s e)
+pub line-by-line : (st : Lent) (s rest : List ℕ) → noTen s ≡ true → leftBy st (linesIn [] (s ++ 10 ∷ rest)) ≡ leftBy (leftAfter st (readLine (s ++ (10 ∷ [])))) (linesIn [] rest)
+unfolding leftBy
+line-by-line st s rest e =
+    rw (ended [] s rest e) (ap (λ (x : Reading). leftBy (leftAfter st x) (linesIn [] rest)) (ap (λ (p : List ℕ). readLine (kept p 10)) (kept-all s [] (omega arith)) ∙ read-kept s e))

@@ -1,19 +1,22 @@
--- What is printed depends on a request's kind alone; a status shows at most 75 numbers; a reading gives its request back.
+-- What is printed depends on a request's kind alone; a status shows at most 75 numbers; a reading gives its request back; so a line is answered.
 -- Assumes nothing.
 use mathlib.Core.Path.{_≡_, refl, sym, ap, _∙_, subst}
 use mathlib.Core.Bool.{Bool, true, false, cond}
-use mathlib.Core.List.{List, [], _∷_, _++_}
+use mathlib.Core.List.{List, [], _∷_}
 use Prim.Native.Nat.{ℕ, zero, suc, _+_, _-_, _≤_, _<_}
 use native.Mathlib.Nat.{le-trans, mul-le-mul-right}
 use native.Mathlib.Omega.{arith}
-use lib.Dec.{eqb}
+use lib.Dec.{eqb, leb}
 use lib.IntN.{ℤ, pos}
 use lib.ListN.{length, take, drop, replicate, length-append}
 use lib.Seq.{take-at}
 use borrow.Author.Tests.{eqb-true, le-leb, lt-leb}
 use Rattle.model.specs.declared.Form.{Form}
+use Rattle.model.specs.declared.LastName.{LastName}
 use Rattle.model.specs.declared.Line.{Line}
+use Rattle.model.specs.declared.Lines.{Lines}
 use Rattle.model.specs.declared.OrderStatus.{OrderStatus}
+use Rattle.model.specs.declared.Part.{Part}
 use Rattle.model.specs.declared.ReadAnswer.{ReadAnswer}
 use Rattle.model.specs.declared.ReadOutcome.the-variants as ReadCase
 use Rattle.model.specs.declared.Refusal.{Refusal}
@@ -23,15 +26,16 @@ use Rattle.model.specs.declared.RequestOutcome.the-variants as RequestCase
 use Rattle.model.specs.Answer.{Answer, committed, refused, requestSays}
 use Rattle.model.specs.Names.{Who, byNumber, byName, whoOf}
 use Rattle.model.specs.Head.{dims}
-use Rattle.model.specs.OrderStatus.{statusFault, statusOrder, linesShown, statusLines}
-use Rattle.model.specs.Request.{Request, newOrder, payment, delivery, orderStatus, stockLevel, lent, linesOf, shownOf, partOf, after}
+use Rattle.model.specs.OrderStatus.{statusFault, statusOrder, linesShown, statusLines, statusCustomer}
+use Rattle.model.specs.Request.{Request, newOrder, payment, delivery, orderStatus, stockLevel, Lent, requestOf, linesOf, nameIn, shownOf, partOf}
 use Rattle.model.specs.RequestLine.{letter, Reading, read, noForm, padTo, itemsOf, suppliesOf, quantitiesOf, selection, nameOfWho, storedLines, storedName, stored, readLine}
 use Rattle.model.specs.AnswerLine.{printed, told, answerLine, noFormLine, printedFor, leftAfter}
-use Rattle.model.proofs.StatusFacts.{StatusUsed, status-ready, last-in}
+use Rattle.model.proofs.StatusFacts.{StatusUsed, status-ready}
+use Rattle.model.proofs.RuleLaws.{last-in}
 use Rattle.engine.specs.Carried.{Carried, lettered}
-use Rattle.answers.specs.Writing.{sample, outcomeLine, hasRoom, withLine, lengthIf}
+use Rattle.answers.specs.Writing.{Answered, sample, outcomeLine, hasRoom, withLine, lengthIf}
 use Rattle.answers.proofs.Putting.{room}
-use Rattle.desk.specs.Step.{requestIn, Held, roomy}
+use Rattle.desk.specs.Step.{roomy, Stepped}
 
 -- ── what is printed ──
 printed-kind : (r s : Request) (figures : List ℤ) (orders : List ℕ) (shown : List ℤ) → letter r ≡ letter s → printed r figures orders shown ≡ printed s figures orders shown
@@ -73,11 +77,11 @@ sample-letter (RequestCase.OrderStatus o) = refl
 sample-letter (RequestCase.StockLevel o) = refl
 
 -- the line of what a request was answered is the request's
-pub line-told : (b : List ℤ) (names : List ℕ) (q : Request) (r : RequestAnswer) (left : List ℤ) → Carried (lent b names) q r (lent left names) → outcomeLine (r .outcome) (r .orders) (partOf (r .part) left) ≡ answerLine (lent b names) q
+line-told : (s : Lent) (q : Request) (r : RequestAnswer) (left : Lent) → Carried s q r left → outcomeLine (r .outcome) (r .orders) (partOf (r .part) (left .nums)) ≡ answerLine s q
 unfolding outcomeLine answerLine
-line-told b names q r left c =
+line-told s q r left c =
     let k : letter (sample (r .outcome)) ≡ letter q = sym (sample-letter (r .outcome)) ∙ c .kind in
-    rw (told-kind (sample (r .outcome)) q (requestSays (r .outcome)) (r .orders) (partOf (r .part) left) k, k, c .says, c .orders, c .shows)
+    rw (told-kind (sample (r .outcome)) q (requestSays (r .outcome)) (r .orders) (partOf (r .part) (left .nums)) k, k, c .says, c .orders, c .shows)
 
 -- ── a status shows at most 15 lines ──
 take-most : (n : ℕ) (zs : List ℤ) → length (take n zs) ≤ n
@@ -89,8 +93,8 @@ lines-most : (b : List ℤ) (names : List ℕ) (q : OrderStatus) (who : Who) (o 
 unfolding linesShown statusOrder
 lines-most b names q who zero e u = omega arith
 lines-most b names q who (suc o) e u =
-    let r = last-in (dims b) b (q .warehouse) (q .district) _ o e in
-    let i = u .orders (suc o) r in
+    let h = last-in (dims b) b (q .warehouse) (q .district) (statusCustomer (dims b) names q who) in
+    let i = u .orders (suc o) (record { lo = omega arith; hi = rw e at h }) in
     le-trans (take-most _ _) (mul-le-mul-right 5 (i .count-high))
 
 status-most : (b : List ℤ) (names : List ℕ) (q : OrderStatus) (who : Who) → length (statusLines b names q who) ≤ 75
@@ -101,15 +105,26 @@ status-most b names q who = go (eqb (statusFault b names q who .number) 0) refl
     go true e = lines-most b names q who (statusOrder (dims b) b names q who) refl (status-ready b names q who (eqb-true _ _ e) .used)
     go false e = omega arith
 
-pub shown-most : (b : List ℤ) (names : List ℕ) (q : Request) → length (shownOf (lent b names) q) ≤ 75
+shown-most : (s : Lent) (q : Request) → length (shownOf s q) ≤ 75
 unfolding shownOf
-shown-most b names (newOrder q lines) = omega arith
-shown-most b names (payment q who) = omega arith
-shown-most b names (delivery q) = omega arith
-shown-most b names (orderStatus q who) = status-most b names q who
-shown-most b names (stockLevel q) = omega arith
+shown-most s (newOrder q lines) = omega arith
+shown-most s (payment q who) = omega arith
+shown-most s (delivery q) = omega arith
+shown-most s (orderStatus q who) = status-most (s .nums) (s .names) q who
+shown-most s (stockLevel q) = omega arith
 
 -- ── a reading gives its request back ──
+-- a request as its reading holds it
+abbrev requestIn : Form → Lines → LastName → Request
+requestIn form l n = requestOf form (linesOf (take (l .count) (l .items)) (take (l .count) (l .supplies)) (take (l .count) (l .quantities))) (nameIn n)
+
+-- the arrays have the lines and the name that are in use
+pub record Held (l : Lines) (n : LastName) : Type 0 where
+  pub items : l .count ≤ length (l .items)
+  pub supplies : l .count ≤ length (l .supplies)
+  pub quantities : l .count ≤ length (l .quantities)
+  pub name : n .length ≤ length (n .bytes)
+
 lines-back : (ls : List Line) → linesOf (itemsOf ls) (suppliesOf ls) (quantitiesOf ls) ≡ ls
 unfolding linesOf
 lines-back [] = refl
@@ -142,7 +157,7 @@ who-back (byName name) = ap byName (unpadded 16 (length name) name refl)
 form-of : (f g : Form) → ReadCase.Request f ≡ ReadCase.Request g → f ≡ g
 form-of f g e = cc
 
-pub restored : (s : Reading) (form : Form) → stored s .outcome ≡ ReadCase.Request form → s ≡ read (requestIn form (stored s .lines) (stored s .name))
+restored : (s : Reading) (form : Form) → stored s .outcome ≡ ReadCase.Request form → s ≡ read (requestIn form (stored s .lines) (stored s .name))
 unfolding stored
 restored (read (newOrder q ls)) form e = rw (← form-of _ form e) (ap (λ (k : List Line). read (newOrder q k)) (sym (stored-lines ls)))
 restored (read (payment q who)) form e = rw (← form-of _ form e) (ap (λ (w : Who). read (payment q w)) (sym (who-back who)))
@@ -151,7 +166,7 @@ restored (read (orderStatus q who)) form e = rw (← form-of _ form e) (ap (λ (
 restored (read (stockLevel q)) form e = rw (← form-of _ form e)
 restored noForm form e = absurd (let z : _≡_ {A = ℕ} 0 1 = cc in omega arith)
 
-pub without-form : (s : Reading) (f : Refusal) → stored s .outcome ≡ ReadCase.Refused f → s ≡ noForm
+without-form : (s : Reading) (f : Refusal) → stored s .outcome ≡ ReadCase.Refused f → s ≡ noForm
 unfolding stored
 without-form (read (newOrder q ls)) f e = absurd (let z : _≡_ {A = ℕ} 0 1 = cc in omega arith)
 without-form (read (payment q who)) f e = absurd (let z : _≡_ {A = ℕ} 0 1 = cc in omega arith)
@@ -173,7 +188,7 @@ held-lines ls name =
       name = padded-long 16 name;
     }
 
-pub stored-held : (s : Reading) → Held (stored s .lines) (stored s .name)
+stored-held : (s : Reading) → Held (stored s .lines) (stored s .name)
 unfolding stored
 stored-held (read (newOrder q ls)) = held-lines ls []
 stored-held (read (payment q who)) = held-lines [] (nameOfWho who)
@@ -182,60 +197,66 @@ stored-held (read (orderStatus q who)) = held-lines [] (nameOfWho who)
 stored-held (read (stockLevel q)) = held-lines [] []
 stored-held noForm = held-lines [] []
 
--- ── an answer written, and a step ──
--- the shown part, as code lends it
-pub lent-part : (from count : ℕ) (left : List ℤ) → take (from + count - from) (drop from left) ≡ take count (drop from left)
-lent-part from count left = let e : from + count - from ≡ count = omega arith in rw e
+-- ── parts as code lends them ──
+-- from the front, and from a place on
+abbrev front : {A : Type 0} → ℕ → List A → List A
+front n xs = take (n - 0) xs
 
-module _ (b : List ℤ) (names out m : List ℕ) (q : Request) (r : RequestAnswer) (left shown : List ℤ) (n : ℕ) where
-  pub answered : 2048 ≤ length out → Carried (lent b names) q r (lent left names) → shown ≡ partOf (r .part) left
-      → (n ≡ lengthIf (hasRoom out shown) (outcomeLine (r .outcome) (r .orders) shown)) × (m ≡ withLine (hasRoom out shown) (outcomeLine (r .outcome) (r .orders) shown) out)
-      → (n ≡ length (answerLine (lent b names) q)) × ((m ≡ answerLine (lent b names) q ++ drop (length (answerLine (lent b names) q)) out) × (left ≡ after (lent b names) q .nums))
-  answered h c e w =
-      let few : length shown ≤ 75 = rw (e, c .shows) (shown-most b names q) in
-      let t : hasRoom out shown ≡ true = room out shown h few in
-      let l : outcomeLine (r .outcome) (r .orders) shown ≡ answerLine (lent b names) q = ap (outcomeLine (r .outcome) (r .orders)) e ∙ line-told b names q r left c in
-      let v = rw (t, l) at w in
-      (v .0, (v .1, c .leaves))
+front-same : (n : ℕ) → n - 0 ≡ n
+front-same n = omega arith
 
--- a part from the front
-pub front : (n : ℕ) → n - 0 ≡ n
-front n = omega arith
+abbrev lentPart : Part → List ℤ → List ℤ
+lentPart p b = take (p .from + p .count - p .from) (drop (p .from) b)
 
--- a step, by what reading gives
-module _ (line : List ℕ) (form : Form) (a : ReadAnswer) (h : a ≡ stored (readLine line)) where
-  pub step-read : a .outcome ≡ ReadCase.Request form → readLine line ≡ read (requestIn form (a .lines) (a .name))
-  step-read e = restored (readLine line) form (ap (λ (x : ReadAnswer). x .outcome) (sym h) ∙ e) ∙ ap (λ (x : ReadAnswer). read (requestIn form (x .lines) (x .name))) (sym h)
+lent-part : (p : Part) (b : List ℤ) → lentPart p b ≡ partOf p b
+lent-part p b = let e : p .from + p .count - p .from ≡ p .count = omega arith in rw e
 
-  pub step-held : Held (a .lines) (a .name)
-  step-held = subst (λ (x : ReadAnswer). Held (x .lines) (x .name)) (sym h) (stored-held (readLine line))
-
-pub step-none : (line : List ℕ) (a : ReadAnswer) (f : Refusal) → a ≡ stored (readLine line) → a .outcome ≡ ReadCase.Refused f → readLine line ≡ noForm
-step-none line a f h e = without-form (readLine line) f (ap (λ (x : ReadAnswer). x .outcome) (sym h) ∙ e)
-
-module _ (b : List ℤ) (names out m : List ℕ) (left : List ℤ) (n : ℕ) {s : Reading} where
-  -- where the line was read
-  pub told-read : (q : Request) → 2048 ≤ length out → s ≡ read q
-      → (n ≡ length (answerLine (lent b names) q)) × ((m ≡ answerLine (lent b names) q ++ drop (length (answerLine (lent b names) q)) out) × (left ≡ after (lent b names) q .nums))
-      → (n ≡ lengthIf (roomy out) (printedFor (lent b names) s)) × ((m ≡ withLine (roomy out) (printedFor (lent b names) s) out) × (left ≡ cond (roomy out) (leftAfter (lent b names) s .nums) b))
-  unfolding printedFor leftAfter
-  told-read q h e w = rw (e, le-leb 2048 (length out) h) w
+-- ── a line answered ──
+module _ (s : Lent) (line out m : List ℕ) (n : ℕ) (left : Lent) (h : 2048 ≤ length out) where
+  stepped : (t : Bool) (text : List ℕ) → t ≡ true → text ≡ printedFor s (readLine line) → left .nums ≡ leftAfter s (readLine line) .nums → Answered t text out m n → Stepped s line out m n left
+  stepped t text e f g w =
+      let o : leb 2048 (length out) ≡ true = le-leb 2048 (length out) h in
+      record { long = rw (o, ← f) (rw e at (w .long)); bytes = rw (o, ← f) (rw e at (w .bytes)); nums = rw o g }
 
   -- where it has no form
-  pub told-none : 2048 ≤ length out → s ≡ noForm → left ≡ b
-      → (n ≡ lengthIf (hasRoom out []) noFormLine) × (m ≡ withLine (hasRoom out []) noFormLine out)
-      → (n ≡ lengthIf (roomy out) (printedFor (lent b names) s)) × ((m ≡ withLine (roomy out) (printedFor (lent b names) s) out) × (left ≡ cond (roomy out) (leftAfter (lent b names) s .nums) b))
+  pub stepped-none : (a : ReadAnswer) (f : Refusal) → a ≡ stored (readLine line) → a .outcome ≡ ReadCase.Refused f → left .nums ≡ s .nums → Answered (hasRoom out []) noFormLine out m n → Stepped s line out m n left
   unfolding printedFor leftAfter
-  told-none h e k w =
-      let v = rw (room out [] h (omega arith)) at w in
-      rw (e, le-leb 2048 (length out) h) (v .0, (v .1, k))
+  stepped-none a f e o k w =
+      let r : readLine line ≡ noForm = without-form (readLine line) f (ap (λ (x : ReadAnswer). x .outcome) (sym e) ∙ o) in
+      stepped (hasRoom out []) noFormLine (room out [] h (omega arith)) (rw r) (rw r k) w
+
+  -- where it was read: the request and the shown part as code lends them
+  module _ (a : ReadAnswer) (form : Form) (e : a ≡ stored (readLine line)) (o : a .outcome ≡ ReadCase.Request form) where
+    was-read : readLine line ≡ read (requestIn form (a .lines) (a .name))
+    was-read = restored (readLine line) form (ap (λ (x : ReadAnswer). x .outcome) (sym e) ∙ o) ∙ ap (λ (x : ReadAnswer). read (requestIn form (x .lines) (x .name))) (sym e)
+
+    pub stepped-read : (r : RequestAnswer)
+        → Carried s (requestOf form (linesOf (front (a .lines .count) (a .lines .items)) (front (a .lines .count) (a .lines .supplies)) (front (a .lines .count) (a .lines .quantities))) (front (a .name .length) (a .name .bytes))) r left
+        → Answered (hasRoom out (lentPart (r .part) (left .nums))) (outcomeLine (r .outcome) (r .orders) (lentPart (r .part) (left .nums))) out m n
+        → Stepped s line out m n left
+    unfolding printedFor leftAfter
+    stepped-read r c w =
+        let q = requestIn form (a .lines) (a .name) in
+        let d : Carried s q r left = rw (front-same (a .lines .count), front-same (a .name .length)) at c in
+        let p : lentPart (r .part) (left .nums) ≡ partOf (r .part) (left .nums) = lent-part (r .part) (left .nums) in
+        let few : length (lentPart (r .part) (left .nums)) ≤ 75 = rw (p, d .shows) (shown-most s q) in
+        stepped (hasRoom out (lentPart (r .part) (left .nums))) (outcomeLine (r .outcome) (r .orders) (lentPart (r .part) (left .nums)))
+        (room out (lentPart (r .part) (left .nums)) h few) (rw was-read (ap (outcomeLine (r .outcome) (r .orders)) p ∙ line-told s q r left d)) (rw was-read (d .leaves)) w
 
 -- where there is no room
-pub told-nothing : (b : List ℤ) (names out : List ℕ) (s : Reading) → length out < 2048
-    → (0 ≡ lengthIf (roomy out) (printedFor (lent b names) s)) × ((out ≡ withLine (roomy out) (printedFor (lent b names) s) out) × (b ≡ cond (roomy out) (leftAfter (lent b names) s .nums) b))
-told-nothing b names out s h = rw (lt-leb 2048 (length out) h) (refl, (refl, refl))
+pub stepped-nothing : (s : Lent) (line out : List ℕ) → length out < 2048 → Stepped s line out out 0 s
+stepped-nothing s line out h =
+    let o : leb 2048 (length out) ≡ false = lt-leb 2048 (length out) h in
+    record { long = rw o; bytes = rw o; nums = rw o }
+
+-- the arrays of a reading hold what is in use
+pub read-held : (line : List ℕ) (a : ReadAnswer) → a ≡ stored (readLine line) → Held (a .lines) (a .name)
+read-held line a e = subst (λ (x : ReadAnswer). Held (x .lines) (x .name)) (sym e) (stored-held (readLine line))
 
 -- what was written is a part of the buffer
-pub written-part : (out m text : List ℕ) (n : ℕ) (t : Bool) → n ≡ lengthIf t text → m ≡ withLine t text out → n ≤ length m
-written-part out m text n true e f = rw (e, f) (omega (arith, length-append text (drop (length text) out)))
-written-part out m text n false e f = omega arith
+pub written-part : (s : Lent) (line old new : List ℕ) (n : ℕ) (left : Lent) → Stepped s line old new n left → n ≤ length new
+written-part s line old new n left w = go (roomy old) (printedFor s (readLine line)) (w .long) (w .bytes)
+  where
+    go : (t : Bool) (text : List ℕ) → n ≡ lengthIf t text → new ≡ withLine t text old → n ≤ length new
+    go true text e f = rw (e, f) (omega (arith, length-append text (drop (length text) old)))
+    go false text e f = omega arith

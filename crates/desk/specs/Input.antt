@@ -1,25 +1,66 @@
--- Input in blocks: the line that is not yet ended, and the book.
+-- Input in blocks: the lines that bytes end, the line that is not yet ended, and what the lines leave.
 -- Assumes nothing.
-use mathlib.Core.Bool.{cond}
+use mathlib.Core.Path.{_≡_}
+use mathlib.Core.Bool.{Bool, true, false, cond}
 use mathlib.Core.List.{List, [], _∷_, _++_}
-use Prim.Native.Nat.{ℕ}
+use Prim.Native.Nat.{ℕ, _+_, _-_, _≤_}
 use lib.Dec.{ltb, eqb}
-use lib.IntN.{ℤ}
-use lib.ListN.{length}
-use Rattle.model.specs.Request.{lent}
-use Rattle.model.specs.RequestLine.{readLine}
+use lib.ListN.{length, take, drop}
+use Rattle.model.specs.Request.{Request, Lent}
+use Rattle.model.specs.RequestLine.{Reading, read, noForm, readLine}
 use Rattle.model.specs.AnswerLine.{leftAfter}
 
 -- a line so far and one byte more: the first 1,024 bytes are kept
 abbrev pub kept : List ℕ → ℕ → List ℕ
 kept p x = cond (ltb (length p) 1024) (p ++ (x ∷ [])) p
 
--- the book after a block of input, given the line so far: each line that the block ends is carried out
-unfoldable pub bookAfter : List ℤ → List ℕ → List ℕ → List ℕ → List ℤ
-bookAfter b names p [] = b
-bookAfter b names p (x ∷ xs) = cond (eqb x 10) (bookAfter (leftAfter (lent b names) (readLine (kept p x)) .nums) names [] xs) (bookAfter b names (kept p x) xs)
+-- the lines that bytes end, given the line so far
+unfoldable pub linesIn : List ℕ → List ℕ → List (List ℕ)
+linesIn p [] = []
+linesIn p (x ∷ xs) = cond (eqb x 10) (kept p x ∷ linesIn [] xs) (linesIn (kept p x) xs)
 
--- the line so far after a block
+-- the line so far after bytes
 unfoldable pub lineAfter : List ℕ → List ℕ → List ℕ
 lineAfter p [] = p
 lineAfter p (x ∷ xs) = cond (eqb x 10) (lineAfter [] xs) (lineAfter (kept p x) xs)
+
+-- what lines leave of all that is lent, one after the other
+unfoldable pub leftBy : Lent → List (List ℕ) → Lent
+leftBy s [] = s
+leftBy s (l ∷ ls) = leftBy (leftAfter s (readLine l)) ls
+
+-- the requests that lines hold: a line without a form holds none
+abbrev pub withRequest : Reading → List Request → List Request
+withRequest (read r) rs = r ∷ rs
+withRequest noForm rs = rs
+
+unfoldable pub requestsIn : List (List ℕ) → List Request
+requestsIn [] = []
+requestsIn (l ∷ ls) = withRequest (readLine l) (requestsIn ls)
+
+-- the bytes of a block from one place up to another
+abbrev pub between : List ℕ → ℕ → ℕ → List ℕ
+between block at next = take (next - at) (drop at block)
+
+-- a buffer of 1,024 bytes with the line so far, and a place in a block
+pub record Started (line : List ℕ) (len : ℕ) (block : List ℕ) (at : ℕ) : Type 0 where
+  pub room : length line ≡ 1024
+  pub short : len ≤ 1024
+  pub place : at ≤ length block
+
+-- bytes of a block taken into the line so far `p`, up to the line's end or the block's
+pub record CutOff (p block : List ℕ) (at : ℕ) (line : List ℕ) (len next : ℕ) (ended : Bool) : Type 0 where
+  pub short : len ≤ 1024
+  pub place : next ≤ length block
+  pub onward : at + cond ended 1 0 ≤ next
+  pub lines : linesIn p (between block at next) ≡ cond ended (take len line ∷ []) []
+  pub rest : lineAfter p (between block at next) ≡ cond ended [] (take len line)
+  pub whole : ended ≡ false → next ≡ length block
+
+-- a block after the line so far `p`: of what is lent before, the bytes used of the block, and what is lent after; all are used while the output is open
+pub record FedIn (s : Lent) (p block line : List ℕ) (len used : ℕ) (going : Bool) (left : Lent) : Type 0 where
+  pub short : len ≤ 1024
+  pub place : used ≤ length block
+  pub whole : going ≡ true → used ≡ length block
+  pub rest : take len line ≡ lineAfter p (take used block)
+  pub nums : left .nums ≡ leftBy s (linesIn p (take used block)) .nums

@@ -1,25 +1,15 @@
 // The program's desk: its book, one request line answered, and standard input answered line by line.
 ghost use mathlib.Core.Path.{_≡_};
-ghost use mathlib.Core.Bool.{true, cond};
-ghost use mathlib.Core.List.{_++_};
-ghost use Prim.Native.Nat.{_≤_, _<_};
-ghost use lib.Dec.{eqb};
+ghost use Prim.Native.Nat.{_≤_};
 ghost use lib.IntN.{pos};
-ghost use lib.ListN.{length, take, drop, replicate};
-ghost use Rattle.model.specs.RequestLine.{readLine};
-ghost use Rattle.model.specs.Request.{lent, after};
-ghost use Rattle.model.specs.AnswerLine.{answerLine, printedFor, leftAfter};
-ghost use Rattle.model.specs.Opening.{openingAnswer};
+ghost use lib.ListN.{length, take, replicate};
+ghost use Rattle.model.specs.Request.{lent};
 ghost use Rattle.model.proofs.Listing.{programBook, programNames};
-ghost use Rattle.answers.specs.Writing.{withLine, lengthIf};
-ghost use Rattle.desk.specs.Step.{isCommitted, requestIn, Held, roomy};
-ghost use Rattle.desk.specs.Input.{kept, bookAfter, lineAfter};
+ghost use Rattle.desk.specs.Step.{Stepped, Ran};
+ghost use Rattle.desk.specs.Input.{kept, Started, CutOff, FedIn};
 ghost use Rattle.desk.specs.Filling.{headTo, districtsTo, pricesTo, stocksTo, twoNames};
 use libc::STDIN_FILENO;
 use libc::STDOUT_FILENO;
-use model::Form;
-use model::LastName;
-use model::Lines;
 use model::OpeningOutcome;
 use model::ReadOutcome;
 
@@ -104,44 +94,11 @@ fn fill_names(names: &mut [u8])
     }
 }
 
-// A request carried out, and its answer written.
-fn answer(
-    b: &mut [i64],
-    names: &[u8],
-    form: Form,
-    lines: Lines,
-    name: LastName,
-    out: &mut [u8],
-) -> usize
-    requires { ⌜ (2048 ≤ length (now out)) × Held lines name ⌝ }
-    ensures { λ r. ⌜ (r ≡ length (answerLine (lent (now (b .entry)) (now (names .entry))) (requestIn form lines name))) × ((now (out .exit) ≡ answerLine (lent (now (b .entry)) (now (names .entry))) (requestIn form lines name) ++ drop (length (answerLine (lent (now (b .entry)) (now (names .entry))) (requestIn form lines name))) (now (out .entry))) × (now (b .exit) ≡ after (lent (now (b .entry)) (now (names .entry))) (requestIn form lines name) .nums)) ⌝ }
-{
-    let n = lines.count as usize;
-    let m = name.length as usize;
-    let items = lines.items;
-    let supplies = lines.supplies;
-    let quantities = lines.quantities;
-    let bytes = name.bytes;
-    let a = engine::carry_out(
-        b,
-        names,
-        form,
-        &items[0..n],
-        &supplies[0..n],
-        &quantities[0..n],
-        &bytes[0..m],
-    );
-    let o = a.outcome;
-    let orders = a.orders;
-    let part = a.part;
-    let from = part.from as usize;
-    let to = (part.from + part.count) as usize;
-    answers::write_answer(out, o, orders, &b[from..to])
-}
-
 // One request line in, one answer out to a buffer of at least 2,048 bytes: its length, or 0 where there is no room and nothing is done.
 pub fn step(b: &mut [i64], names: &[u8], line: &[u8], out: &mut [u8]) -> usize
-    ensures { λ r. ⌜ (r ≡ lengthIf (roomy (now (out .entry))) (printedFor (lent (now (b .entry)) (now (names .entry))) (readLine (now (line .entry))))) × ((now (out .exit) ≡ withLine (roomy (now (out .entry))) (printedFor (lent (now (b .entry)) (now (names .entry))) (readLine (now (line .entry)))) (now (out .entry))) × (now (b .exit) ≡ cond (roomy (now (out .entry))) (leftAfter (lent (now (b .entry)) (now (names .entry))) (readLine (now (line .entry))) .nums) (now (b .entry)))) ⌝ }
+    ensures { λ r. ⌜ Stepped
+        (lent (now (b .entry)) (now (names .entry))) (now (line .entry)) (now (out .entry)) (now (out .exit)) r
+        (lent (now (b .exit)) (now (names .entry))) ⌝ }
 {
     if out.len() < 2048 {
         return 0;
@@ -152,25 +109,30 @@ pub fn step(b: &mut [i64], names: &[u8], line: &[u8], out: &mut [u8]) -> usize
         ReadOutcome::Request(form) => {
             let lines = r.lines;
             let name = r.name;
-            answer(b, names, form, lines, name, out)
+            let n = lines.count as usize;
+            let m = name.length as usize;
+            let items = lines.items;
+            let supplies = lines.supplies;
+            let quantities = lines.quantities;
+            let bytes = name.bytes;
+            let a = engine::carry_out(
+                b,
+                names,
+                form,
+                &items[0..n],
+                &supplies[0..n],
+                &quantities[0..n],
+                &bytes[0..m],
+            );
+            let said = a.outcome;
+            let orders = a.orders;
+            let part = a.part;
+            let from = part.from as usize;
+            let to = (part.from + part.count) as usize;
+            answers::write_answer(out, said, orders, &b[from..to])
         }
         ReadOutcome::Refused(_) => answers::write_no_form(out),
     }
-}
-
-// The bytes of a line not yet ended, and whether the output still takes answers.
-struct Fed {
-    len: usize,
-    open: bool,
-}
-
-// One line answered; false where the output is closed.
-fn reply(b: &mut [i64], names: &[u8], line: &[u8]) -> bool
-    ensures { λ _. ⌜ now (b .exit) ≡ leftAfter (lent (now (b .entry)) (now (names .entry))) (readLine (now (line .entry))) .nums ⌝ }
-{
-    let mut out = [0u8; 2048];
-    let n = step(b, names, line, &mut out);
-    io::write_all(STDOUT_FILENO, &out[0..n])
 }
 
 // A byte put to a line so far. Of an overlong line the first 1,024 bytes are kept, which have no form.
@@ -185,43 +147,81 @@ fn keep(line: &mut [u8], n: usize, x: u8) -> usize
     n
 }
 
-// After a byte: the line is answered where the byte ends it.
-fn end_line(b: &mut [i64], names: &[u8], line: &[u8], n: usize, x: u8) -> Fed
-    requires { ⌜ n ≤ length (now line) ⌝ }
-    ensures { λ r. ⌜ (r .len ≡ cond (eqb x 10) 0 n) × (now (b .exit) ≡ cond (eqb x 10) (leftAfter (lent (now (b .entry)) (now (names .entry))) (readLine (take n (now (line .entry)))) .nums) (now (b .entry))) ⌝ }
-{
-    if x == 10 {
-        let open = reply(b, names, &line[0..n]);
-        return Fed { len: 0, open };
-    }
-    Fed { len: n, open: true }
+// The bytes of the line so far, the place after the bytes taken, and whether they end the line.
+struct Taken {
+    len: usize,
+    next: usize,
+    ended: bool,
 }
 
-// A block of input: each line that it ends is answered.
-fn feed(b: &mut [i64], names: &[u8], line: &mut [u8], len: usize, block: &[u8]) -> Fed
-    requires { ⌜ (length (now line) ≡ 1024) × (len ≤ 1024) ⌝ }
-    ensures { λ r. ⌜ (r .len ≤ 1024) × (r .open ≡ true → (now (b .exit) ≡ bookAfter (now (b .entry)) (now (names .entry)) (take len (now (line .entry))) (now (block .entry))) × (take (r .len) (now (line .exit)) ≡ lineAfter (take len (now (line .entry))) (now (block .entry)))) ⌝ }
+// Bytes of a block taken into the line so far, from a place up to the line's end or the block's.
+fn cut(line: &mut [u8], len: usize, block: &[u8], at: usize) -> Taken
+    requires { ⌜ Started (now line) len (now block) at ⌝ }
+    ensures { λ r. ⌜ CutOff (take len (now (line .entry))) (now (block .entry)) at (now (line .exit)) (r .len) (r .next) (r .ended) ⌝ }
 {
     let mut n = len;
-    let mut i = 0;
+    let mut i = at;
     while i < block.len() {
         let x = block[i];
         n = keep(line, n, x);
-        let fed = end_line(b, names, line, n, x);
-        if fed.open {
-            n = fed.len;
-        } else {
+        i += 1;
+        if x == 10 {
+            return Taken {
+                len: n,
+                next: i,
+                ended: true,
+            };
+        }
+    }
+    Taken {
+        len: n,
+        next: i,
+        ended: false,
+    }
+}
+
+// The bytes of the line so far, those used of the block, and whether the output still takes answers.
+struct Fed {
+    len: usize,
+    used: usize,
+    open: bool,
+}
+
+// A block of input: each line that it ends is answered, until the output is closed.
+fn feed(b: &mut [i64], names: &[u8], line: &mut [u8], len: usize, block: &[u8]) -> Fed
+    requires { ⌜ Started (now line) len (now block) 0 ⌝ }
+    ensures { λ r. ⌜ FedIn
+        (lent (now (b .entry)) (now (names .entry))) (take len (now (line .entry))) (now (block .entry))
+        (now (line .exit)) (r .len) (r .used) (r .open)
+        (lent (now (b .exit)) (now (names .entry))) ⌝ }
+{
+    let mut out = [0u8; 2048];
+    let mut n = len;
+    let mut at = 0;
+    loop {
+        let c = cut(line, n, block, at);
+        n = c.len;
+        at = c.next;
+        if !c.ended {
             return Fed {
-                len: 0,
+                len: n,
+                used: at,
+                open: true,
+            };
+        }
+        let m = step(b, names, &line[0..n], &mut out);
+        n = 0;
+        if !io::write_all(STDOUT_FILENO, &out[0..m]) {
+            return Fed {
+                len: n,
+                used: at,
                 open: false,
             };
         }
-        i += 1;
     }
-    Fed { len: n, open: true }
 }
 
-// Standard input answered line by line, until it ends or the output is closed.
+// Standard input answered line by line, until it ends or the output is closed; a last line without its end is answered too.
 fn serve(b: &mut [i64], names: &[u8]) {
     let mut block = [0u8; 4096];
     let mut line = [0u8; 1024];
@@ -232,7 +232,9 @@ fn serve(b: &mut [i64], names: &[u8]) {
         let n = io::count(got, &block);
         if n == 0 {
             if 0 < len {
-                reply(b, names, &line[0..len]);
+                let mut out = [0u8; 2048];
+                let m = step(b, names, &line[0..len], &mut out);
+                io::write_all(STDOUT_FILENO, &out[0..m]);
             }
             return;
         }
@@ -248,7 +250,7 @@ fn serve(b: &mut [i64], names: &[u8]) {
 
 // The program: its book, opened, and standard input answered on it. True, for opening accepts the book.
 pub fn run() -> bool
-    ensures { λ r. ⌜ r ≡ isCommitted (openingAnswer programBook programNames) ⌝ }
+    ensures { λ r. ⌜ Ran programBook programNames r ⌝ }
 {
     let mut b = [0i64; 3479];
     let mut names = [0u8; 640];

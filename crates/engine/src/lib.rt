@@ -22,7 +22,9 @@ fn new_order(
     supplies: &[u64],
     quantities: &[u64],
 ) -> RequestAnswer
-    ensures { λ r. ⌜ Carried (lent (now (b .entry)) (now (names .entry))) (newOrder q (linesOf (now (items .entry)) (now (supplies .entry)) (now (quantities .entry)))) r (lent (now (b .exit)) (now (names .entry))) ⌝ }
+    ensures { λ r. ⌜ Carried (lent (now (b .entry)) (now (names .entry)))
+        (newOrder q (linesOf (now (items .entry)) (now (supplies .entry)) (now (quantities .entry))))
+        r (lent (now (b .exit)) (now (names .entry))) ⌝ }
 {
     let a = new_order::new_order_split(b, names, q, items, supplies, quantities);
     let o = a.outcome;
@@ -38,7 +40,9 @@ fn new_order(
 
 // Payment.
 fn payment(b: &mut [i64], names: &[u8], q: Payment, who: Selection, name: &[u8]) -> RequestAnswer
-    ensures { λ r. ⌜ Carried (lent (now (b .entry)) (now (names .entry))) (payment q (whoOf who (now (name .entry)))) r (lent (now (b .exit)) (now (names .entry))) ⌝ }
+    ensures { λ r. ⌜ Carried (lent (now (b .entry)) (now (names .entry)))
+        (payment q (whoOf who (now (name .entry))))
+        r (lent (now (b .exit)) (now (names .entry))) ⌝ }
 {
     let a = payment::payment(b, names, q, who, name);
     let o = a.outcome;
@@ -54,7 +58,9 @@ fn payment(b: &mut [i64], names: &[u8], q: Payment, who: Selection, name: &[u8])
 
 // Delivery.
 fn delivery(b: &mut [i64], names: &[u8], q: Delivery) -> RequestAnswer
-    ensures { λ r. ⌜ Carried (lent (now (b .entry)) (now (names .entry))) (delivery q) r (lent (now (b .exit)) (now (names .entry))) ⌝ }
+    ensures { λ r. ⌜ Carried (lent (now (b .entry)) (now (names .entry)))
+        (delivery q)
+        r (lent (now (b .exit)) (now (names .entry))) ⌝ }
 {
     let a = delivery::delivery(b, names, q);
     let o = a.outcome;
@@ -76,7 +82,9 @@ fn order_status(
     who: Selection,
     name: &[u8],
 ) -> RequestAnswer
-    ensures { λ r. ⌜ Carried (lent (now (b .entry)) (now (names .entry))) (orderStatus q (whoOf who (now (name .entry)))) r (lent (now (b .entry)) (now (names .entry))) ⌝ }
+    ensures { λ r. ⌜ Carried (lent (now (b .entry)) (now (names .entry)))
+        (orderStatus q (whoOf who (now (name .entry))))
+        r (lent (now (b .entry)) (now (names .entry))) ⌝ }
 {
     let a = order_status::status_shown(b, names, q, who, name);
     let o = a.outcome;
@@ -92,7 +100,9 @@ fn order_status(
 
 // Stock-Level.
 fn stock_level(b: &[i64], names: &[u8], q: StockLevel) -> RequestAnswer
-    ensures { λ r. ⌜ Carried (lent (now (b .entry)) (now (names .entry))) (stockLevel q) r (lent (now (b .entry)) (now (names .entry))) ⌝ }
+    ensures { λ r. ⌜ Carried (lent (now (b .entry)) (now (names .entry)))
+        (stockLevel q)
+        r (lent (now (b .entry)) (now (names .entry))) ⌝ }
 {
     let a = stock_level::stock_level(b, names, q);
     let o = a.outcome;
@@ -116,7 +126,9 @@ pub fn carry_out(
     quantities: &[u64],
     name: &[u8],
 ) -> RequestAnswer
-    ensures { λ r. ⌜ Carried (lent (now (b .entry)) (now (names .entry))) (requestOf form (linesOf (now (items .entry)) (now (supplies .entry)) (now (quantities .entry))) (now (name .entry))) r (lent (now (b .exit)) (now (names .entry))) ⌝ }
+    ensures { λ r. ⌜ Carried (lent (now (b .entry)) (now (names .entry)))
+        (requestOf form (linesOf (now (items .entry)) (now (supplies .entry)) (now (quantities .entry))) (now (name .entry)))
+        r (lent (now (b .exit)) (now (names .entry))) ⌝ }
 {
     match form {
         Form::NewOrder(q) => new_order(b, names, q, items, supplies, quantities),

@@ -7,7 +7,6 @@ use native.Mathlib.Omega.{arith}
 use Rattle.model.specs.declared.Dims.{Dims}
 use Rattle.model.specs.Layout.{numbers, nameBytes, shapes, place, inside}
 use Rattle.model.specs.Rows.{warehouseRow, districtRow, customerRow, price, stockRow, slot, orderRow, historyRow}
-use Rattle.model.specs.Names.{namePlace}
 use Rattle.model.specs.Claim.{R}
 use Rattle.model.proofs.Fields.{Dimensioned, v1, v2, v3, v4, v5, v6, v7, slot-in, row-end}
 use Rattle.layout.specs.Layout.{allCustomers, allStocks, allOrders, itemBase, stockBase, orderBase, historyBase}
@@ -90,9 +89,8 @@ module _ (d : Dims) where
   unfolding place inside numbers allCustomers allStocks allOrders
   history-is h r = (omega arith, row-end (shapes d) 7 h 1 1 6 (v7 d r 6 (omega arith)) refl)
 
-  pub name-is : (w k c : ℕ) → R (d .warehouses) w → R 10 k → R (d .customers) c
-      → (32 * ((10 * (w - 1) + (k - 1)) * d .customers + (c - 1)) ≡ namePlace d w k c) × (namePlace d w k c + 32 ≤ nameBytes d)
-  unfolding namePlace nameBytes
-  name-is w k c r s t =
-      let h = in-block (10 * (w - 1) + (k - 1)) (10 * d .warehouses) (c - 1) (d .customers) (omega arith) (omega arith) in
-      (omega arith, omega (arith, h))
+  -- orders of following numbers are in following slots
+  pub order-run : (w k o i : ℕ) → R (d .warehouses) w → R 10 k → 1 ≤ o → o + i ≤ d .orders
+      → (place (shapes d) (orderRow d w k o) + 81 * i ≡ place (shapes d) (orderRow d w k (o + i))) × (place (shapes d) (orderRow d w k (o + i)) + 81 ≤ numbers d)
+  unfolding place inside slot
+  order-run w k o i r s l h = (omega arith, order-is w k (o + i) r s (record { lo = omega arith; hi = omega arith }) .1)

@@ -1,42 +1,39 @@
 ghost use mathlib.Core.Path.{_≡_};
-ghost use Prim.Native.Nat.{_+_, _≤_};
+ghost use Prim.Native.Nat.{_+_, _≤_, _<_, _^_};
 ghost use lib.ListN.{length};
 ghost use Rattle.model.specs.Tests.{every};
-ghost use Rattle.model.specs.Layout.{numbers, nameBytes, shapes, place};
-ghost use Rattle.model.specs.Head.{dims, dimsTests, sizeTests, headOk};
+ghost use Rattle.model.specs.Layout.{numbers, shapes, place};
+ghost use Rattle.model.specs.Head.{dims, dimsTests, sizeTests};
 ghost use Rattle.model.specs.Rows.{warehouseRow, districtRow, customerRow, price, stockRow, slot, orderRow, historyRow};
-ghost use Rattle.model.specs.Names.{namePlace};
 ghost use Rattle.model.specs.Claim.{R};
 ghost use Rattle.model.proofs.Fields.{Dimensioned};
 ghost use Rattle.layout.specs.Layout.{allCustomers, allStocks, allOrders, itemBase, stockBase, orderBase, historyBase};
+ghost use Rattle.layout.specs.Heads.{HeadSays};
+ghost use Rattle.layout.specs.Runs.{rowIn, RunOf, SectionRun};
 use model::Dims;
 
 // The five numbers that fix the size are in their ranges.
-pub fn dims_ok(d: Dims) -> bool
-    ensures { λ r. ⌜ r ≡ every (dimsTests d) ⌝ }
+fn dims_ok(b: &[i64]) -> bool
+    requires { ⌜ 6 ≤ length (now b) ⌝ }
+    ensures { λ r. ⌜ r ≡ every (dimsTests (dims (now (b .entry)))) ⌝ }
 {
-    (1 <= d.warehouses)
-        & (d.warehouses <= 20)
-        & (1 <= d.customers)
-        & (d.customers <= 3000)
-        & (1 <= d.items)
-        & (d.items <= 100000)
-        & (1 <= d.orders)
-        & (d.orders <= 10000)
-        & (1 <= d.histories)
-        & (d.histories <= 1000000)
+    cells::one_to(b, 0, 20)
+        & cells::one_to(b, 1, 3000)
+        & cells::one_to(b, 2, 100000)
+        & cells::one_to(b, 3, 10000)
+        & cells::one_to(b, 4, 1000000)
 }
 
-// The five numbers that fix the size.
-pub fn dims_of(b: &[i64]) -> Dims
-    requires { ⌜ 6 ≤ length (now b) ⌝ }
+// The five numbers, which have been found in their ranges.
+fn dims_of(b: &[i64]) -> Dims
+    requires { ⌜ (6 ≤ length (now b)) × Dimensioned (dims (now b)) ⌝ }
     ensures { λ r. ⌜ r ≡ dims (now (b .entry)) ⌝ }
 {
-    let warehouses = cells::get(b, 0);
-    let customers = cells::get(b, 1);
-    let items = cells::get(b, 2);
-    let orders = cells::get(b, 3);
-    let histories = cells::get(b, 4);
+    let warehouses = cells::held(b, 0);
+    let customers = cells::held(b, 1);
+    let items = cells::held(b, 2);
+    let orders = cells::held(b, 3);
+    let histories = cells::held(b, 4);
     Dims {
         warehouses,
         customers,
@@ -47,21 +44,21 @@ pub fn dims_of(b: &[i64]) -> Dims
 }
 
 // How many customers, stocks and orders the book has rows for.
-pub fn all_customers(d: Dims) -> u64
+fn all_customers(d: Dims) -> u64
     requires { ⌜ Dimensioned d ⌝ }
     ensures { λ r. ⌜ (r ≡ allCustomers d) × (r ≤ 600000) ⌝ }
 {
     10 * d.warehouses * d.customers
 }
 
-pub fn all_stocks(d: Dims) -> u64
+fn all_stocks(d: Dims) -> u64
     requires { ⌜ Dimensioned d ⌝ }
     ensures { λ r. ⌜ (r ≡ allStocks d) × (r ≤ 2000000) ⌝ }
 {
     d.warehouses * d.items
 }
 
-pub fn all_orders(d: Dims) -> u64
+fn all_orders(d: Dims) -> u64
     requires { ⌜ Dimensioned d ⌝ }
     ensures { λ r. ⌜ (r ≡ allOrders d) × (r ≤ 2000000) ⌝ }
 {
@@ -69,7 +66,7 @@ pub fn all_orders(d: Dims) -> u64
 }
 
 // Where the items, the stocks, the orders and the history start.
-pub fn item_base(d: Dims) -> u64
+fn item_base(d: Dims) -> u64
     requires { ⌜ Dimensioned d ⌝ }
     ensures { λ r. ⌜ (r ≡ itemBase d) × (r ≤ 3700000) ⌝ }
 {
@@ -77,14 +74,14 @@ pub fn item_base(d: Dims) -> u64
     6 + 2 * d.warehouses + 30 * d.warehouses + 6 * customers
 }
 
-pub fn stock_base(d: Dims) -> u64
+fn stock_base(d: Dims) -> u64
     requires { ⌜ Dimensioned d ⌝ }
     ensures { λ r. ⌜ (r ≡ stockBase d) × (r ≤ 3800000) ⌝ }
 {
     item_base(d) + d.items
 }
 
-pub fn order_base(d: Dims) -> u64
+fn order_base(d: Dims) -> u64
     requires { ⌜ Dimensioned d ⌝ }
     ensures { λ r. ⌜ (r ≡ orderBase d) × (r ≤ 11800000) ⌝ }
 {
@@ -92,7 +89,7 @@ pub fn order_base(d: Dims) -> u64
     stock_base(d) + 4 * stocks
 }
 
-pub fn history_base(d: Dims) -> u64
+fn history_base(d: Dims) -> u64
     requires { ⌜ Dimensioned d ⌝ }
     ensures { λ r. ⌜ (r ≡ historyBase d) × (r ≤ 200000000) ⌝ }
 {
@@ -101,7 +98,7 @@ pub fn history_base(d: Dims) -> u64
 }
 
 // How many numbers the book has.
-pub fn numbers_of(d: Dims) -> u64
+fn numbers_of(d: Dims) -> u64
     requires { ⌜ Dimensioned d ⌝ }
     ensures { λ r. ⌜ (r ≡ numbers d) × (r ≤ 207000000) ⌝ }
 {
@@ -109,7 +106,7 @@ pub fn numbers_of(d: Dims) -> u64
 }
 
 // The history count and the two lengths agree with the head.
-pub fn sizes_ok(b: &[i64], wide: u64, d: Dims) -> bool
+fn sizes_ok(b: &[i64], wide: u64, d: Dims) -> bool
     requires { ⌜ (6 ≤ length (now b)) × Dimensioned d ⌝ }
     ensures { λ r. ⌜ r ≡ every (sizeTests d (now (b .entry)) wide) ⌝ }
 {
@@ -120,20 +117,28 @@ pub fn sizes_ok(b: &[i64], wide: u64, d: Dims) -> bool
     (count <= d.histories) & (long == numbers) & (wide == 32 * customers)
 }
 
-// The head is in its ranges and the two lengths agree with it.
-pub fn head_ok(b: &[i64], names: &[u8]) -> bool
-    ensures { λ r. ⌜ r ≡ headOk (now (b .entry)) (length (now (names .entry))) ⌝ }
+// What reading the head finds: a book of these dimensions, or none.
+pub enum Head {
+    Book(Dims),
+    Damaged,
+}
+
+// The head read: the dimensions where it is in its ranges and the two lengths agree with it.
+pub fn head_of(b: &[i64], names: &[u8]) -> Head
+    ensures { λ r. ⌜ HeadSays (now (b .entry)) (length (now (names .entry))) r ⌝ }
 {
     if b.len() < 6 {
-        return false;
+        return Head::Damaged;
+    }
+    if !dims_ok(b) {
+        return Head::Damaged;
     }
     let d = dims_of(b);
-    if dims_ok(d) {
-        let wide = names.len() as u64;
-        sizes_ok(b, wide, d)
-    } else {
-        false
+    let wide = names.len() as u64;
+    if !sizes_ok(b, wide, d) {
+        return Head::Damaged;
     }
+    Head::Book(d)
 }
 
 // Where the row of a warehouse starts.
@@ -179,7 +184,7 @@ pub fn stock_at(d: Dims, w: u64, i: u64) -> u64
 }
 
 // The slot of an order number.
-pub fn slot_of(d: Dims, o: u64) -> u64
+fn slot_of(d: Dims, o: u64) -> u64
     requires { ⌜ R (d .orders) o ⌝ }
     ensures { λ r. ⌜ (r ≡ slot d o) × R (d .orders) r ⌝ }
 {
@@ -196,19 +201,40 @@ pub fn order_at(d: Dims, w: u64, k: u64, o: u64) -> u64
     order_base(d) + 81 * (block + (slot - 1))
 }
 
+// Rows of orders that follow each other: where the first starts, and how many they are.
+pub struct Run {
+    pub at: u64,
+    pub count: u64,
+}
+
+// The rows of the n orders of a district from number `first` on.
+pub fn orders_run(d: Dims, w: u64, k: u64, first: u64, n: u64) -> Run
+    requires { ⌜ Dimensioned d × (R (d .warehouses) w × (R 10 k × (R (d .orders) first × (first + n ≤ d .orders + 1)))) ⌝ }
+    ensures { λ r. ⌜ RunOf d w k first n r ⌝ }
+{
+    let at = order_at(d, w, k, first);
+    Run { at, count: n }
+}
+
+// The rows of the first n orders in a district's section of orders, lent by itself.
+pub fn section_run(n: u64) -> Run
+    ensures { λ r. ⌜ SectionRun n r ⌝ }
+{
+    Run { at: 0, count: n }
+}
+
+// Where row i, from 0, of a run starts.
+pub fn order_in(run: Run, i: u64) -> u64
+    requires { ⌜ rowIn run i < 2 ^ 63 ⌝ }
+    ensures { λ r. ⌜ r ≡ rowIn run i ⌝ }
+{
+    run.at + 81 * i
+}
+
 // Where the history row h starts, h from 1.
 pub fn history_at(d: Dims, h: u64) -> u64
     requires { ⌜ Dimensioned d × R (d .histories) h ⌝ }
     ensures { λ r. ⌜ (r ≡ place (shapes d) (historyRow h)) × (r + 7 ≤ numbers d) ⌝ }
 {
     history_base(d) + 7 * (h - 1)
-}
-
-// Where the names of a customer start.
-pub fn name_at(d: Dims, w: u64, k: u64, c: u64) -> u64
-    requires { ⌜ Dimensioned d × (R (d .warehouses) w × (R 10 k × R (d .customers) c)) ⌝ }
-    ensures { λ r. ⌜ (r ≡ namePlace d w k c) × (r + 32 ≤ nameBytes d) ⌝ }
-{
-    let block = (10 * (w - 1) + (k - 1)) * d.customers;
-    32 * (block + (c - 1))
 }

@@ -1,12 +1,12 @@
 -- Each form as code reads it: numbers in a row, and for Payment and Order-Status a who between.
 -- Assumes nothing.
 use mathlib.Core.Path.{_≡_, refl, sym, ap, _∙_}
-use mathlib.Core.Bool.{Bool, true, false, cond}
+use mathlib.Core.Bool.{Bool, true, false}
 use mathlib.Core.List.{List, [], _∷_, _++_, append-nil}
 use Prim.Native.Nat.{ℕ, zero, suc, _+_, _-_, _*_, _/_, _≤_, _<_}
 use native.Mathlib.Omega.{arith}
 use lib.Dec.{leb, ltb, eqb}
-use lib.ListN.{length, getD, set, drop, replicate, length-append, length-drop}
+use lib.ListN.{length, getD, set, drop, replicate, length-append, length-drop, List·getD-map}
 use lib.Seq.{getD-drop}
 use borrow.Author.Tests.{eq-eqb, eqb-true, leb-true, le-leb, lt-leb, ltb-true, ltb-false}
 use Rattle.model.specs.Tests.{every, allOf}
@@ -14,11 +14,14 @@ use Rattle.model.specs.declared.Form.the-variants as Form
 use Rattle.model.specs.declared.ReadOutcome.the-variants as ReadCase
 use Rattle.model.specs.Lists.{upTo}
 use Rattle.model.specs.Request.{Request, newOrder, delivery, stockLevel}
-use Rattle.model.specs.RequestLine.{isNumber, valueOf, parted, onto, numberIn, linesRead, read, noForm, readIf, readNewOrder, readDelivery, readStockLevel, padTo, itemsOf, suppliesOf, quantitiesOf, storedName, stored}
+use Rattle.model.specs.Text.{isNumber, valueOf}
+use Rattle.model.specs.RequestLine.{numberIn, linesRead, read, noForm, readIf, readNewOrder, readDelivery, readStockLevel, padTo, itemsOf, suppliesOf, quantitiesOf, storedName, stored}
 use Rattle.model.proofs.ListLaws.{up-none, up-step, up-cons, up-same, length-up}
+use Rattle.model.proofs.TextLaws.{parted-some}
 use Rattle.model.proofs.TestLaws.{every-each, and-left, and-right}
 use Rattle.lines.proofs.Walk.{pad-next}
-use Rattle.lines.specs.Fields.{fieldsFrom, hasNumber, valuesOf, Run, third, columnOf, columns}
+use Rattle.text.specs.Fields.{partsFrom, fieldsFrom, hasNumber}
+use Rattle.lines.specs.Fields.{valuesOf, Run, third, columnOf, columns}
 
 -- a test that would be absurd fails
 fails : (t : Bool) → (t ≡ true → ⊥) → t ≡ false
@@ -82,30 +85,15 @@ new-left fs gs r l =
 -- the number in a field, by the values read
 pub value-at : (fs : List (List ℕ)) (k : ℕ) → numberIn fs k ≡ getD (valuesOf fs) k 0
 unfolding valueOf
-value-at [] k = refl
-value-at (f ∷ fs) zero = refl
-value-at (f ∷ fs) (suc k) = value-at fs k
+value-at fs k = sym (List·getD-map valueOf fs k [])
 
 -- ── numbers in a row, and what is left of the line ──
-onto-some : (x : ℕ) (p : List (List ℕ)) → 1 ≤ length (onto x p)
-onto-some x [] = omega arith
-onto-some x (f ∷ fs) = omega arith
-
-parted-some : (s : List ℕ) → 1 ≤ length (parted s)
-unfolding parted
-parted-some [] = omega arith
-parted-some (x ∷ s) = go (eqb x 9)
-  where
-    go : (t : Bool) → 1 ≤ length (cond t ([] ∷ parted s) (onto x (parted s)))
-    go true = omega arith
-    go false = onto-some x (parted s)
-
 pub some-left : (s : List ℕ) (p : ℕ) → p ≤ length s → 1 ≤ length (fieldsFrom s p)
-unfolding fieldsFrom
-some-left s p h = rw (le-leb p (length s) h) (parted-some (drop p s))
+unfolding partsFrom
+some-left s p h = rw (le-leb p (length s) h) (parted-some 9 (drop p s))
 
 pub none-left : (s : List ℕ) (p : ℕ) → length s < p → fieldsFrom s p ≡ []
-unfolding fieldsFrom
+unfolding partsFrom
 none-left s p h = rw (lt-leb p (length s) h)
 
 zeros : (m k : ℕ) → _≡_ {A = ℕ} (getD (replicate {A = ℕ} m 0) k 0) 0

@@ -15,10 +15,12 @@ use Rattle.model.specs.declared.ReadOutcome.the-variants as ReadCase
 use Rattle.model.specs.declared.Selection.{Selection}
 use Rattle.model.specs.Tests.{every, allOf}
 use Rattle.model.specs.Request.{Request, payment, orderStatus}
-use Rattle.model.specs.RequestLine.{isNumber, valueOf, isWho, whoRead, parted, field, numberIn, read, noForm, readPayment, readOrderStatus, readFields, readParted, readLine, storedLines, stored}
+use Rattle.model.specs.Text.{isNumber, valueOf, parted}
+use Rattle.model.specs.RequestLine.{isWho, whoRead, field, numberIn, read, noForm, readPayment, readOrderStatus, readFields, readParted, readLine, storedLines, stored}
 use Rattle.model.proofs.TestLaws.{every-each, and-left, and-right}
 use Rattle.lines.proofs.Forms.{unread, some-left, none-left, run-value}
-use Rattle.lines.specs.Fields.{fieldsFrom, FieldEnd, hasNumber, hasWhoField, Run, WhoStepped}
+use Rattle.text.specs.Fields.{partsFrom, fieldsFrom, FieldEnd, hasNumber}
+use Rattle.lines.specs.Fields.{hasWhoField, Run, WhoStepped}
 
 no : {X : Type 0} → true ≡ false → X
 no e = absurd (let z : _≡_ {A = ℕ} 0 1 = cc in omega arith)
@@ -219,19 +221,19 @@ module _ (s : List ℕ) (n p : ℕ) (vs : List ℕ) (r : Run s 2 n p vs) where
         ap (λ (x : List (List ℕ)). stored (readOrderStatus x)) whole ∙ ap stored are ∙ rw (← at 0, ← at 1, w .choice, w .same)
 
 -- ── the letter and the line ──
-first-part : (s : List ℕ) (e : ℕ) → FieldEnd s 0 e → parted s ≡ take e s ∷ fieldsFrom s (e + 1)
-unfolding fieldsFrom
+first-part : (s : List ℕ) (e : ℕ) → FieldEnd 9 s 0 e → parted s ≡ take e s ∷ fieldsFrom s (e + 1)
+unfolding partsFrom
 first-part s e d =
     let z : e - 0 ≡ e = omega arith in
     let p = d .parts in
     rw (le-leb 0 (length s) (omega arith), z) at p
 
-pub body-not : (s : List ℕ) (e : ℕ) → FieldEnd s 0 e → (e ≡ 1 → ⊥) → readParted (parted s) ≡ noForm
+pub body-not : (s : List ℕ) (e : ℕ) → FieldEnd 9 s 0 e → (e ≡ 1 → ⊥) → readParted (parted s) ≡ noForm
 body-not s e d h =
     let l : length (take e s) ≡ e = length-take-le e s (d .to) in
     ap readParted (first-part s e d) ∙ rw (l, ne-eqb e 1 h)
 
-pub body-is : (s : List ℕ) (e x : ℕ) → FieldEnd s 0 e → e ≡ 1 → x ≡ getD s 0 0 → readParted (parted s) ≡ readFields x (fieldsFrom s 2)
+pub body-is : (s : List ℕ) (e x : ℕ) → FieldEnd 9 s 0 e → e ≡ 1 → x ≡ getD s 0 0 → readParted (parted s) ≡ readFields x (fieldsFrom s 2)
 body-is s e x d h q =
     let l : length (take e s) ≡ e = length-take-le e s (d .to) in
     let g : getD (take e s) 0 0 ≡ x = getD-take e s 0 0 (omega arith) ∙ sym q in

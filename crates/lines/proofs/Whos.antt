@@ -17,10 +17,12 @@ use Rattle.model.specs.declared.Selection.the-variants as Selection
 use Rattle.model.specs.Tests.{allOf}
 use Rattle.model.specs.RequestLine.{isPrintable, isName, isWho, whoRead, padTo, selection, nameOfWho, storedName}
 use Rattle.model.proofs.TestLaws.{every-each}
-use Rattle.lines.specs.declared.Number.the-variants as Number
+use Rattle.text.specs.declared.Number.the-variants as Number
 use Rattle.lines.specs.declared.WhoStep.{WhoStep}
-use Rattle.lines.specs.Fields.{fieldsFrom, FieldEnd, numberRead, noWho, whoByNumber, whoByName, whoStep, hasWhoField, WhoStepped, WhoFound, WhoSays}
-use Rattle.lines.proofs.Walk.{pad-next, number-is, number-not}
+use Rattle.text.specs.Fields.{partsFrom, fieldsFrom, FieldEnd, numberRead}
+use Rattle.lines.specs.Fields.{noWho, whoByNumber, whoByName, whoStep, hasWhoField, WhoStepped, WhoFound, WhoSays}
+use Rattle.text.proofs.Walk.{number-is, number-not}
+use Rattle.lines.proofs.Walk.{pad-next}
 
 -- ── a name, byte by byte ──
 pub name-none : (f : List ℕ) → true ≡ allOf isPrintable (take 0 f)
@@ -116,10 +118,10 @@ who-none (y ∷ f) next x h q d e =
 
 -- ── who at a position ──
 pub who-past : (s : List ℕ) (at : ℕ) → length s < at → WhoSays s at noWho
-unfolding fieldsFrom
+unfolding partsFrom
 who-past s at h = rw (lt-leb at (length s) h)
 
-pub who-says : (s : List ℕ) (at e : ℕ) → FieldEnd s at e → WhoSays s at (whoStep (take (e - at) (drop at s)) (e + 1))
+pub who-says : (s : List ℕ) (at e : ℕ) → FieldEnd 9 s at e → WhoSays s at (whoStep (take (e - at) (drop at s)) (e + 1))
 unfolding whoStep
 who-says s at e d = go (isWho f) refl
   where

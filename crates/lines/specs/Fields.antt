@@ -1,58 +1,23 @@
--- A line's fields as code walks them: by the position where a field starts.
+-- A line's fields as code walks them: numbers in a row, who.
 -- Assumes nothing.
 use mathlib.Core.Path.{_≡_}
 use mathlib.Core.Bool.{Bool, true, false, cond}
-use mathlib.Core.List.{List, [], _∷_, _++_}
+use mathlib.Core.List.{List, [], _∷_, _++_, map}
 use Prim.Native.Nat.{ℕ, _+_, _-_, _*_, _≤_}
-use lib.Dec.{leb}
-use lib.ListN.{length, getD, take, drop}
+use lib.ListN.{length, getD}
 use Rattle.model.specs.declared.LastName.{LastName}
 use Rattle.model.specs.declared.Lines.{Lines}
 use Rattle.model.specs.declared.Selection.{Selection}
 use Rattle.model.specs.declared.Selection.the-variants as Selection
 use Rattle.model.specs.Tests.{allOf}
 use Rattle.model.specs.Lists.{upTo}
-use Rattle.model.specs.RequestLine.{isNumber, valueOf, isName, isWho, whoRead, parted, padTo, selection, nameOfWho, storedName}
-use Rattle.lines.specs.declared.Number.{Number}
-use Rattle.lines.specs.declared.Number.the-variants as Number
-use Rattle.lines.specs.declared.Step.{Step}
-use Rattle.lines.specs.declared.Step.the-variants as Step
+use Rattle.model.specs.Text.{isNumber, valueOf}
+use Rattle.model.specs.RequestLine.{isName, isWho, whoRead, padTo, selection, nameOfWho, storedName}
+use Rattle.text.specs.Fields.{fieldsFrom}
 use Rattle.lines.specs.declared.WhoStep.{WhoStep}
 
--- the fields from a position on; the position after the last field is one past the end
-unfoldable pub fieldsFrom : List ℕ → ℕ → List (List ℕ)
-fieldsFrom s at = cond (leb at (length s)) (parted (drop at s)) []
-
--- the field that starts at a position, its end, and the fields after it
-pub record FieldEnd (s : List ℕ) (at e : ℕ) : Type 0 where
-  pub from : at ≤ e
-  pub to : e ≤ length s
-  pub parts : fieldsFrom s at ≡ take (e - at) (drop at s) ∷ fieldsFrom s (e + 1)
-
--- the number that a field holds
-unfoldable pub numberRead : List ℕ → Number
-numberRead f = cond (isNumber f) (Number.Value (valueOf f)) Number.Bad
-
--- the first of some fields is a number
-abbrev pub hasNumber : List (List ℕ) → Bool
-hasNumber [] = false
-hasNumber (f ∷ fs) = isNumber f
-
--- a field that is a number, and where the next field starts
-pub record Stepped (s : List ℕ) (at v next : ℕ) : Type 0 where
-  pub first : List ℕ
-  pub parts : fieldsFrom s at ≡ first ∷ fieldsFrom s next
-  pub number : isNumber first ≡ true
-  pub value : valueOf first ≡ v
-  pub within : next ≤ length s + 1
-
-abbrev pub StepSays : List ℕ → ℕ → Step → Type 0
-StepSays s at (Step.Value v next) = Stepped s at v next
-StepSays s at Step.Bad = hasNumber (fieldsFrom s at) ≡ false
-
 abbrev pub valuesOf : List (List ℕ) → List ℕ
-valuesOf [] = []
-valuesOf (f ∷ fs) = valueOf f ∷ valuesOf fs
+valuesOf fs = map valueOf fs
 
 -- fields that are numbers, from a position on, and where the next field starts
 pub record Run (s : List ℕ) (at count next : ℕ) (values : List ℕ) : Type 0 where

@@ -3,9 +3,12 @@ ghost use mathlib.Core.Path.{_≡_};
 ghost use mathlib.Core.Bool.{false};
 ghost use Prim.Native.Nat.{_+_, _*_, _≤_, _<_};
 ghost use lib.ListN.{length};
-ghost use mathlib.Core.List.{[], _∷_};
-ghost use Rattle.model.specs.RequestLine.{isDigit, isPrintable, isName, noForm, readNewOrder, readPayment, readDelivery, readOrderStatus, readStockLevel, readFields, readParted, readLine, parted, storedLines, storedName, storedForm, stored};
-ghost use Rattle.lines.specs.Fields.{FieldEnd, numberRead, StepSays, Run, hasNumber, fieldsFrom, columnOf, columns, noWho, whoByNumber, whoByName, whoStep, WhoSays};
+ghost use mathlib.Core.List.{[]};
+ghost use Rattle.model.specs.Text.{parted};
+ghost use Rattle.model.specs.RequestLine.{isPrintable, isName, noForm, readNewOrder, readPayment, readDelivery, readOrderStatus};
+ghost use Rattle.model.specs.RequestLine.{readStockLevel, readFields, readParted, readLine, storedLines, storedName, storedForm, stored};
+ghost use Rattle.text.specs.Fields.{hasNumber, fieldsFrom};
+ghost use Rattle.lines.specs.Fields.{Run, columnOf, columns, noWho, whoByNumber, whoByName, whoStep, WhoSays};
 use model::Delivery;
 use model::Form;
 use model::LastName;
@@ -18,18 +21,8 @@ use model::ReadOutcome;
 use model::Refusal;
 use model::Selection;
 use model::StockLevel;
-
-// What a field holds: a number, or none.
-pub enum Number {
-    Value(u64),
-    Bad,
-}
-
-// A number in a field and where the next field starts, or none.
-pub enum Step {
-    Value(u64, usize),
-    Bad,
-}
+use text::Number;
+use text::Step;
 
 // The numbers read from consecutive fields, and where the next field starts.
 pub struct Numbers {
@@ -46,78 +39,6 @@ pub struct WhoStep {
     pub name: LastName,
 }
 
-// Where the field that starts at a position ends: at the next tab, or at the end.
-fn field_end(s: &[u8], at: usize) -> usize
-    requires { ⌜ at ≤ length (now s) ⌝ }
-    ensures { λ r. ⌜ FieldEnd (now (s .entry)) at r ⌝ }
-{
-    let mut i = at;
-    while i < s.len() {
-        if s[i] == 9 {
-            return i;
-        }
-        i += 1;
-    }
-    i
-}
-
-// A byte as a number.
-fn wide(x: u8) -> u64
-    ensures { λ r. ⌜ r ≡ x ⌝ }
-{
-    x as u64
-}
-
-// A byte is a digit.
-fn is_digit(x: u64) -> bool
-    ensures { λ r. ⌜ r ≡ isDigit x ⌝ }
-{
-    (48 <= x) & (x <= 57)
-}
-
-// The number that a field holds.
-fn number_of(f: &[u8]) -> Number
-    ensures { λ r. ⌜ r ≡ numberRead (now (f .entry)) ⌝ }
-{
-    let n = f.len();
-    if n < 1 {
-        return Number::Bad;
-    }
-    if 10 < n {
-        return Number::Bad;
-    }
-    if (n != 1) & (f[0] == 48) {
-        return Number::Bad;
-    }
-    let mut v: u64 = 0;
-    let mut i = 0;
-    while i < n {
-        let x = wide(f[i]);
-        if is_digit(x) {
-            v = v * 10 + (x - 48);
-        } else {
-            return Number::Bad;
-        }
-        i += 1;
-    }
-    Number::Value(v)
-}
-
-// The number in the field that starts at a position.
-fn number_at(s: &[u8], at: usize) -> Step
-    requires { ⌜ at ≤ length (now s) + 1 ⌝ }
-    ensures { λ r. ⌜ StepSays (now (s .entry)) at r ⌝ }
-{
-    if s.len() < at {
-        return Step::Bad;
-    }
-    let e = field_end(s, at);
-    let Number::Value(v) = number_of(&s[at..e]) else {
-        return Step::Bad;
-    };
-    Step::Value(v, e + 1)
-}
-
 // The numbers in the fields from a position on: at most k, up to the first field that is none.
 fn numbers_at(s: &[u8], at: usize, k: usize) -> Numbers
     requires { ⌜ (at ≤ length (now s) + 1) × (k ≤ 49) ⌝ }
@@ -127,7 +48,7 @@ fn numbers_at(s: &[u8], at: usize, k: usize) -> Numbers
     let mut next = at;
     let mut count = 0;
     while count < k {
-        let Step::Value(v, p) = number_at(s, next) else {
+        let Step::Value(v, p) = text::number_at(s, next) else {
             return Numbers {
                 count,
                 next,
@@ -365,7 +286,7 @@ fn no_who() -> WhoStep
 fn number_who(f: &[u8], next: usize) -> WhoStep
     ensures { λ r. ⌜ r ≡ whoByNumber (now (f .entry)) next ⌝ }
 {
-    let Number::Value(v) = number_of(f) else {
+    let Number::Value(v) = text::number_of(f) else {
         return no_who();
     };
     let selection = Selection::Number(v);
@@ -403,7 +324,7 @@ fn who_of(f: &[u8], next: usize) -> WhoStep
     if n < 1 {
         return no_who();
     }
-    let x = wide(f[0]);
+    let x = text::wide(f[0]);
     if x == 35 {
         return number_who(&f[1..n], next);
     }
@@ -421,7 +342,7 @@ fn who_at(s: &[u8], at: usize) -> WhoStep
     if s.len() < at {
         return no_who();
     }
-    let e = field_end(s, at);
+    let e = text::field_end(s, at, 9);
     who_of(&s[at..e], e + 1)
 }
 
@@ -525,11 +446,11 @@ fn read_form(s: &[u8], x: u64) -> ReadAnswer
 fn read_body(s: &[u8]) -> ReadAnswer
     ensures { λ r. ⌜ r ≡ stored (readParted (parted (now (s .entry)))) ⌝ }
 {
-    let e = field_end(s, 0);
+    let e = text::field_end(s, 0, 9);
     if e != 1 {
         return no_form();
     }
-    let x = wide(s[0]);
+    let x = text::wide(s[0]);
     read_form(s, x)
 }
 

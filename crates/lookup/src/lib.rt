@@ -18,7 +18,7 @@ use model::Found;
 use model::Selection;
 
 // Where the names of a district's customers start.
-pub fn name_base(d: Dims, w: u64, k: u64) -> u64
+fn name_base(d: Dims, w: u64, k: u64) -> u64
     requires { ⌜ Dimensioned d × (R (d .warehouses) w × R 10 k) ⌝ }
     ensures { λ r. ⌜ (r ≡ namePlace d w k 1) × (r + 32 * d .customers ≤ nameBytes d) ⌝ }
 {
@@ -148,7 +148,9 @@ fn consider(
     c: u64,
 ) -> u64
     requires { ⌜ (length (now name) ≡ 16) × ((n < length (now list)) × Listed (now names) base count (now list) n c) ⌝ }
-    ensures { λ r. ⌜ (r ≤ n + 1) × (take r (now (list .exit)) ≡ cond (namedFrom (now (names .entry)) base (now (name .entry)) c) (insert (beforeFrom (now (names .entry)) base) c (take n (now (list .entry)))) (take n (now (list .entry)))) ⌝ }
+    ensures { λ r. ⌜ (r ≤ n + 1)
+        × (take r (now (list .exit))
+        ≡ cond (namedFrom (now (names .entry)) base (now (name .entry)) c) (insert (beforeFrom (now (names .entry)) base) c (take n (now (list .entry)))) (take n (now (list .entry)))) ⌝ }
 {
     if is_named(names, base, name, c) {
         insert_in(names, base, count, list, n, c);
@@ -250,7 +252,7 @@ pub fn who_ok(d: Dims, who: Selection, name: &[u8]) -> bool
     ensures { λ r. ⌜ r ≡ every (whoTests d (whoOf who (now (name .entry)))) ⌝ }
 {
     match who {
-        Selection::Number(c) => (1 <= c) & (c <= d.customers),
+        Selection::Number(c) => cells::within(c, 1, d.customers),
         Selection::LastName => true,
     }
 }

@@ -6,11 +6,11 @@ use mathlib.Core.List.{List, [], _∷_, _++_, append-nil, append-assoc}
 use mathlib.Core.Bool.{Bool, true, false, _||_, not, cond}
 use lib.Dec.{leb, ltb, eqb}
 use lib.ListN.{length, getD, length-append, List·getD-append}
-use native.Mathlib.Nat.{pow-succ', pow-le-pow-right, lt-of-lt-of-le, add-zero}
+use native.Mathlib.Nat.{pow-succ', pow-le-pow-right, lt-of-lt-of-le, add-zero, zero-add, suc-add}
 use native.Mathlib.Omega.{arith}
 use borrow.Author.Tests.{lt-ltb, le-ltb, le-leb, leb-true, eq-eqb, ne-eqb, eqb-true, ltb-true, ltb-false}
 use Rattle.model.specs.Tests.{allOf}
-use Rattle.model.specs.RequestLine.{isDigit, isNumber, valueFrom, valueOf, digits, decimal}
+use Rattle.model.specs.Text.{isDigit, isNumber, valueFrom, valueOf, digits, decimal}
 use Rattle.model.proofs.TestLaws.{and-left, and-right, and-both, every-each, each-every}
 
 pub record Digit (x : ℕ) : Type 0 where
@@ -33,16 +33,50 @@ fuel : (f n : ℕ) → n < 10 ^ suc f → digits f n ≡ digits (suc f) n
 fuel zero n h = rw (lt-ltb n 10 h)
 fuel (suc f) n h = rw (← fuel f (n / 10) (omega (arith, pow-succ' 10 (suc f))))
 
+fuels : (k f n : ℕ) → n < 10 ^ suc f → digits f n ≡ digits (k + f) n
+fuels zero f n h = rw zero-add
+fuels (suc k) f n h =
+    let m : suc f ≤ suc (k + f) = omega arith in
+    let top : 10 ^ suc f ≤ 10 ^ suc (k + f) = pow-le-pow-right (omega arith) m in
+    fuels k f n h ∙ fuel (k + f) n (lt-of-lt-of-le h top) ∙ ap (λ (g : ℕ). digits g n) (sym (suc-add k f))
+
+-- a number of at most f + 1 digits, by as much fuel
+pub dec-digits : (f n : ℕ) → f ≤ 19 → n < 10 ^ suc f → decimal n ≡ digits f n
+unfolding decimal
+dec-digits f n h l = let e : 19 - f + f ≡ 19 = omega arith in sym (fuels (19 - f) f n l ∙ ap (λ (g : ℕ). digits g n) e)
+
 pub dec-small : (n : ℕ) → n < 10 → decimal n ≡ (48 + n) ∷ []
 unfolding decimal
 dec-small n h = rw (lt-ltb n 10 h)
 
-pub dec-more : (n : ℕ) → 10 ≤ n → n < 10000000000 → decimal n ≡ decimal (n / 10) ++ ((48 + n % 10) ∷ [])
+pub dec-more : (n : ℕ) → 10 ≤ n → n < 100000000000000000000 → decimal n ≡ decimal (n / 10) ++ ((48 + n % 10) ∷ [])
 unfolding decimal
-dec-more n h l = rw (le-ltb n 10 h, fuel 8 (n / 10) (omega arith))
+dec-more n h l = rw (le-ltb n 10 h, fuel 18 (n / 10) (omega arith))
+
+-- how many digits
+pub length-small : (n : ℕ) → n < 10 → length (decimal n) ≡ 1
+length-small n h = ap length (dec-small n h)
+
+pub length-more : (n : ℕ) → 10 ≤ n → n < 100000000000000000000 → length (decimal n) ≡ length (decimal (n / 10)) + 1
+length-more n h l = ap length (dec-more n h l) ∙ length-append (decimal (n / 10)) ((48 + n % 10) ∷ [])
+
+digits-most : (f n : ℕ) → length (digits f n) ≤ suc f
+digits-most zero n = omega arith
+digits-most (suc f) n = go (ltb n 10) (digits-most f (n / 10))
+  where
+    go : (t : Bool) → length (digits f (n / 10)) ≤ suc f → length (cond t ((48 + n) ∷ []) (digits f (n / 10) ++ ((48 + n % 10) ∷ []))) ≤ suc (suc f)
+    go true h = omega arith
+    go false h = omega (arith, length-append (digits f (n / 10)) ((48 + n % 10) ∷ []))
+
+pub dec-most : (n : ℕ) → length (decimal n) ≤ 20
+unfolding decimal
+dec-most n = digits-most 19 n
+
+pub dec-few : (f n : ℕ) → f ≤ 19 → n < 10 ^ suc f → length (decimal n) ≤ suc f
+dec-few f n h l = rw (dec-digits f n h l) (digits-most f n)
 
 -- a digit after a number
-pub dec-next : (v x : ℕ) → 1 ≤ v → v < 1000000000 → Digit x → decimal (v * 10 + (x - 48)) ≡ decimal v ++ (x ∷ [])
+pub dec-next : (v x : ℕ) → 1 ≤ v → v < 10000000000000000000 → Digit x → decimal (v * 10 + (x - 48)) ≡ decimal v ++ (x ∷ [])
 dec-next v x l h d =
     let q : (v * 10 + (x - 48)) / 10 ≡ v = omega (arith, d .low, d .high) in
     let r : 48 + (v * 10 + (x - 48)) % 10 ≡ x = omega (arith, d .low, d .high) in
@@ -85,9 +119,9 @@ or-right false b e = e
 not-false : (t : Bool) → t ≡ false → not t ≡ true
 not-false t e = rw e
 
-pub number-written : (n : ℕ) → n < 10000000000 → isNumber (decimal n) ≡ true
-unfolding isNumber decimal
-number-written n h =
+number-digits : (n : ℕ) → n < 10000000000 → isNumber (digits 9 n) ≡ true
+unfolding isNumber
+number-digits n h =
     let w = written 9 n h in
     let s = digits 9 n in
     each-every (leb 1 (length s) ∷ leb (length s) 10 ∷ allOf isDigit s ∷ (eqb (length s) 1 || not (eqb (getD s 0 0) 48)) ∷ [])
@@ -103,6 +137,9 @@ number-written n h =
         or-right (eqb (length (digits 9 n)) 1) (not (eqb (getD (digits 9 n) 0 0) 48))
         (not-false (eqb (getD (digits 9 n) 0 0) 48) (ne-eqb (getD (digits 9 n) 0 0) 48 (λ q. omega arith)))
 
+pub number-written : (n : ℕ) → n < 10000000000 → isNumber (decimal n) ≡ true
+number-written n h = ap isNumber (dec-digits 9 n (omega arith) h) ∙ number-digits n h
+
 value-snoc : (v x : ℕ) (s : List ℕ) → valueFrom v (s ++ (x ∷ [])) ≡ valueFrom v s * 10 + (x - 48)
 value-snoc v x [] = refl
 value-snoc v x (y ∷ s) = value-snoc (v * 10 + (y - 48)) x s
@@ -117,18 +154,18 @@ value-digits (suc f) n h = go (ltb n 10) refl (λ q. value-digits f (n / 10) q)
         let r = rec (omega (arith, pow-succ' 10 (suc f))) in
         value-snoc 0 (48 + n % 10) (digits f (n / 10)) ∙ omega (arith, r)
 
-pub value-written : (n : ℕ) → n < 10000000000 → valueOf (decimal n) ≡ n
+pub value-written : (n : ℕ) → n < 100000000000000000000 → valueOf (decimal n) ≡ n
 unfolding valueOf decimal
-value-written n h = value-digits 9 n h
+value-written n h = value-digits 19 n h
 
 -- ── a number that is read is what writing gives ──
-value-dec : (s : List ℕ) (v k : ℕ) → 1 ≤ v → v < 10 ^ k → k + length s ≤ 10 → allOf isDigit s ≡ true → (decimal (valueFrom v s) ≡ decimal v ++ s) × (valueFrom v s < 10 ^ (k + length s))
+value-dec : (s : List ℕ) (v k : ℕ) → 1 ≤ v → v < 10 ^ k → k + length s ≤ 20 → allOf isDigit s ≡ true → (decimal (valueFrom v s) ≡ decimal v ++ s) × (valueFrom v s < 10 ^ (k + length s))
 value-dec [] v k l h j e = (sym (append-nil (decimal v)), rw (add-zero k) h)
 value-dec (x ∷ s) v k l h j e =
     let d = digit-in x (and-left (isDigit x) (allOf isDigit s) e) in
-    let nine : k ≤ 9 = omega arith in
-    let top : 10 ^ k ≤ 10 ^ 9 = pow-le-pow-right (omega arith) nine in
-    let small : v < 1000000000 = lt-of-lt-of-le h top in
+    let few : k ≤ 19 = omega arith in
+    let top : 10 ^ k ≤ 10 ^ 19 = pow-le-pow-right (omega arith) few in
+    let small : v < 10000000000000000000 = lt-of-lt-of-le h top in
     let next : v * 10 + (x - 48) < 10 ^ suc k = omega (arith, pow-succ' 10 k, d .low, d .high) in
     let r = value-dec s (v * 10 + (x - 48)) (suc k) (omega arith) next (omega arith) (and-right (isDigit x) (allOf isDigit s) e) in
     let same : suc k + length s ≡ k + suc (length s) = omega arith in

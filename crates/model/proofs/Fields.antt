@@ -18,7 +18,7 @@ use Rattle.model.specs.Numbers.{nat, cell}
 use Rattle.model.specs.Rows.{slot, line}
 use Rattle.model.specs.Head.{dims, dimsTests, sizeTests, headOk}
 use Rattle.model.specs.Claim.{R}
-use Rattle.model.proofs.TestLaws.{every-each}
+use Rattle.model.proofs.TestLaws.{every-each, within-in}
 use Rattle.model.proofs.Places.{Valid, place-lt, place-start}
 
 module _ (D : Dims) where
@@ -111,7 +111,14 @@ pub record Shaped (d : Dims) (b : List ℤ) (n : ℕ) : Type 0 where
 
 pub dims-are : (d : Dims) → every (dimsTests d) ≡ true → Dimensioned d
 unfolding dimsTests
-dims-are d e = let h = every-each (dimsTests d) e in omega (arith, leb-true)
+dims-are d e =
+    let h = every-each (dimsTests d) e in
+    let w = within-in (d .warehouses) 1 20 (h .0) in
+    let c = within-in (d .customers) 1 3000 (h .1 .0) in
+    let i = within-in (d .items) 1 100000 (h .1 .1 .0) in
+    let o = within-in (d .orders) 1 10000 (h .1 .1 .1 .0) in
+    let t = within-in (d .histories) 1 1000000 (h .1 .1 .1 .1 .0) in
+    omega (arith, w, c, i, o, t)
 
 pub head-shaped : (b : List ℤ) (n : ℕ) → headOk b n ≡ true → Shaped (dims b) b n
 unfolding headOk sizeTests

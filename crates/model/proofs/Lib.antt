@@ -1,5 +1,6 @@
 -- Laws of the definitions.
 pub mod TestLaws
+pub mod AnswerLaws
 pub mod NumberLaws
 pub mod Places
 pub mod Frame
@@ -10,6 +11,7 @@ pub mod ListLaws
 pub mod RuleLaws
 pub mod MarkLaws
 pub mod DecimalLaws
+pub mod TextLaws
 pub mod LineLaws
 pub mod Zipped
 pub mod PassLaws

@@ -2,20 +2,22 @@
 -- Assumes nothing.
 use Prim.Native.Nat.{ℕ, zero, suc, _+_, _-_, _*_, _/_, _<_, _≤_}
 use mathlib.Core.Path.{_≡_, refl, sym, ap, _∙_, subst}
-use mathlib.Core.List.{List, [], _∷_, _++_, append-nil}
+use mathlib.Core.List.{List, [], _∷_, _++_}
 use mathlib.Core.Bool.{Bool, true, false, _&&_, not, cond}
 use lib.Dec.{leb, eqb}
 use lib.ListN.{length, getD, take, drop, length-append, drop-of-length-le}
 use lib.Seq.{drop-cons, take-at, getD-at, take-length, take-suc}
 use native.Mathlib.Omega.{arith}
-use borrow.Author.Tests.{lt-ltb, le-leb, leb-true, eq-eqb, ne-eqb, eqb-true, ltb-true}
+use borrow.Author.Tests.{lt-ltb, le-leb, leb-true, eq-eqb, eqb-true, ltb-true}
 use Rattle.model.specs.declared.Line.{Line}
 use Rattle.model.specs.Tests.{every, allOf}
 use Rattle.model.specs.Names.{Who, byNumber, byName}
 use Rattle.model.specs.Request.{Request, newOrder, payment, delivery, orderStatus, stockLevel}
-use Rattle.model.specs.RequestLine.{isDigit, isNumber, valueOf, hasDigits, decimal, isPrintable, isName, isWho, whoRead, hasWho, whoField, lineSmall, hasForm, letter, lineFields, fieldsOf, tabbed, lineOf, onto, parted, read, noForm, readIf, field, numberIn, linesRead, readNewOrder, readPayment, readDelivery, readOrderStatus, readStockLevel, readFields, readParted, readLine}
+use Rattle.model.specs.Text.{isNumber, valueOf, hasDigits, decimal, joined, lineText, parted}
+use Rattle.model.specs.RequestLine.{isPrintable, isName, isWho, whoRead, hasWho, whoField, lineSmall, hasForm, letter, lineFields, fieldsOf, lineOf, read, noForm, readIf, field, numberIn, linesRead, readNewOrder, readPayment, readDelivery, readOrderStatus, readStockLevel, readFields, readParted, readLine}
 use Rattle.model.proofs.TestLaws.{and-left, and-right, and-both, every-each}
-use Rattle.model.proofs.DecimalLaws.{digit-in, number-written, value-written, number-read}
+use Rattle.model.proofs.DecimalLaws.{number-written, value-written, number-read}
+use Rattle.model.proofs.TextLaws.{all-map, without, other, number-plain, parted-joined, joined-parted}
 
 clash : {X : Type 0} {r : Request} → noForm ≡ read r → X
 clash e = absurd (let z : _≡_ {A = ℕ} 0 1 = cc in omega arith)
@@ -23,97 +25,25 @@ clash e = absurd (let z : _≡_ {A = ℕ} 0 1 = cc in omega arith)
 no : {X : Type 0} → false ≡ true → X
 no e = absurd (let z : _≡_ {A = ℕ} 0 1 = cc in omega arith)
 
-pub all-map : {A : Type 0} (f g : A → Bool) → ((x : A) → f x ≡ true → g x ≡ true) → (xs : List A) → allOf f xs ≡ true → allOf g xs ≡ true
-all-map f g h [] e = refl
-all-map f g h (x ∷ xs) e = and-both (g x) (allOf g xs) (h x (and-left (f x) (allOf f xs) e)) (all-map f g h xs (and-right (f x) (allOf f xs) e))
-
--- ── fields and tabs ──
-abbrev pub noTab : List ℕ → Bool
-noTab f = allOf (λ x. not (eqb x 9)) f
-
-not-nine : (x : ℕ) → 32 ≤ x → not (eqb x 9) ≡ true
-not-nine x h = rw (ne-eqb x 9 (λ e. omega arith))
-
-nine : (x : ℕ) → not (eqb x 9) ≡ true → eqb x 9 ≡ false
-nine x e = go (eqb x 9) e
-  where
-    go : (t : Bool) → not t ≡ true → t ≡ false
-    go true h = no h
-    go false h = refl
-
-pub number-plain : (f : List ℕ) → isNumber f ≡ true → noTab f ≡ true
-unfolding isNumber
-number-plain f e =
-    all-map isDigit (λ x. not (eqb x 9)) (λ x h. not-nine x (omega (arith, digit-in x h .low))) f (every-each (leb 1 (length f) ∷ leb (length f) 10 ∷ allOf isDigit f ∷ _ ∷ []) e .1 .1 .0)
-
-pub name-plain : (f : List ℕ) → isName f ≡ true → noTab f ≡ true
+pub name-plain : (f : List ℕ) → isName f ≡ true → without 9 f ≡ true
 unfolding isName
 name-plain f e =
-    all-map isPrintable (λ x. not (eqb x 9)) (λ x h. not-nine x (leb-true 32 x (and-left (leb 32 x) (leb x 126) h))) f
+    all-map isPrintable (λ x. not (eqb x 9)) (λ x h. other 9 x (omega (arith, leb-true 32 x (and-left (leb 32 x) (leb x 126) h)))) f
     (every-each (leb 1 (length f) ∷ leb (length f) 16 ∷ allOf isPrintable f ∷ not (eqb (getD f 0 0) 32) ∷ not (eqb (getD f (length f - 1) 0) 32) ∷ []) e .1 .1 .0)
 
-pub who-plain : (f : List ℕ) → isWho f ≡ true → noTab f ≡ true
+pub who-plain : (f : List ℕ) → isWho f ≡ true → without 9 f ≡ true
 unfolding isWho
 who-plain [] e = refl
 who-plain (x ∷ f) e = go (eqb x 35) refl e
   where
-    go : (t : Bool) → eqb x 35 ≡ t → cond t (isNumber f) (eqb x 61 && isName f) ≡ true → (not (eqb x 9) && noTab f) ≡ true
-    go true p h = and-both (not (eqb x 9)) (noTab f) (not-nine x (omega (arith, eqb-true x 35 p))) (number-plain f h)
+    go : (t : Bool) → eqb x 35 ≡ t → cond t (isNumber f) (eqb x 61 && isName f) ≡ true → (not (eqb x 9) && without 9 f) ≡ true
+    go true p h = and-both (not (eqb x 9)) (without 9 f) (other 9 x (omega (arith, eqb-true x 35 p))) (number-plain 9 (omega arith) f h)
     go false p h =
-        and-both (not (eqb x 9)) (noTab f) (not-nine x (omega (arith, eqb-true x 61 (and-left (eqb x 61) (isName f) h)))) (name-plain f (and-right (eqb x 61) (isName f) h))
+        and-both (not (eqb x 9)) (without 9 f) (other 9 x (omega (arith, eqb-true x 61 (and-left (eqb x 61) (isName f) h)))) (name-plain f (and-right (eqb x 61) (isName f) h))
 
-pub parted-one : (f : List ℕ) → noTab f ≡ true → parted f ≡ f ∷ []
-unfolding parted
-parted-one [] e = refl
-parted-one (x ∷ f) e =
-    rw (nine x (and-left (not (eqb x 9)) (noTab f) e), parted-one f (and-right (not (eqb x 9)) (noTab f) e))
-
-pub parted-more : (f s : List ℕ) → noTab f ≡ true → parted (f ++ (9 ∷ s)) ≡ f ∷ parted s
-unfolding parted
-parted-more [] s e = refl
-parted-more (x ∷ f) s e =
-    rw (nine x (and-left (not (eqb x 9)) (noTab f) e), parted-more f s (and-right (not (eqb x 9)) (noTab f) e))
-
--- the fields that were joined by tabs
-pub parted-tabbed : (f : List ℕ) (fs : List (List ℕ)) → noTab f ≡ true → allOf noTab fs ≡ true → parted (f ++ tabbed fs) ≡ f ∷ fs
-parted-tabbed f [] e h = ap parted (append-nil f) ∙ parted-one f e
-parted-tabbed f (g ∷ fs) e h =
-    parted-more f (g ++ tabbed fs) e ∙ ap (λ (l : List (List ℕ)). f ∷ l) (parted-tabbed g fs (and-left (noTab g) (allOf noTab fs) h) (and-right (noTab g) (allOf noTab fs) h))
-
--- and back
-abbrev glued : List (List ℕ) → List ℕ
-glued [] = []
-glued (f ∷ fs) = f ++ tabbed fs
-
-onto-some : (x : ℕ) (p : List (List ℕ)) → 1 ≤ length (onto x p)
-onto-some x [] = omega arith
-onto-some x (f ∷ fs) = omega arith
-
-parted-some : (s : List ℕ) → 1 ≤ length (parted s)
-unfolding parted
-parted-some [] = omega arith
-parted-some (x ∷ s) = go (eqb x 9)
-  where
-    go : (t : Bool) → 1 ≤ length (cond t ([] ∷ parted s) (onto x (parted s)))
-    go true = omega arith
-    go false = onto-some x (parted s)
-
-glued-tab : (p : List (List ℕ)) → 1 ≤ length p → glued ([] ∷ p) ≡ 9 ∷ glued p
-glued-tab [] h = absurd (omega arith)
-glued-tab (f ∷ fs) h = refl
-
-glued-onto : (x : ℕ) (p : List (List ℕ)) → glued (onto x p) ≡ x ∷ glued p
-glued-onto x [] = refl
-glued-onto x (f ∷ fs) = refl
-
-pub glued-parted : (s : List ℕ) → glued (parted s) ≡ s
-unfolding parted
-glued-parted [] = refl
-glued-parted (x ∷ s) = go (eqb x 9) refl (glued-parted s)
-  where
-    go : (t : Bool) → eqb x 9 ≡ t → glued (parted s) ≡ s → glued (cond t ([] ∷ parted s) (onto x (parted s))) ≡ x ∷ s
-    go true e ih = glued-tab (parted s) (parted-some s) ∙ ap (λ (l : List ℕ). 9 ∷ l) ih ∙ ap (λ (y : ℕ). y ∷ s) (sym (eqb-true x 9 e))
-    go false e ih = glued-onto x (parted s) ∙ ap (λ (l : List ℕ). x ∷ l) ih
+-- a number of at most ten digits is read back
+value-back : (n : ℕ) → n < 10000000000 → valueOf (decimal n) ≡ n
+value-back n h = value-written n (omega arith)
 
 -- ── who ──
 pub record WhoWritten (w : Who) : Type 0 where
@@ -124,7 +54,7 @@ pub who-written : (w : Who) → hasWho w ≡ true → WhoWritten w
 unfolding isWho whoRead
 who-written (byNumber c) e =
     let h : c < 10000000000 = ltb-true c 10000000000 e in
-    record { form = number-written c h; back = ap byNumber (value-written c h) }
+    record { form = number-written c h; back = ap byNumber (value-back c h) }
 who-written (byName name) e = record { form = e; back = refl }
 
 pub record WhoRead (f : List ℕ) : Type 0 where
@@ -182,7 +112,7 @@ unfolding linesRead
 lines-written [] e = refl
 lines-written (l ∷ lines) e =
     let s = line-small l (and-left (lineSmall l) (allOf lineSmall lines) e) in
-    rw (value-written (l .item) (s .item), value-written (l .supply) (s .supply), value-written (l .quantity) (s .quantity), lines-written lines (and-right (lineSmall l) (allOf lineSmall lines) e))
+    rw (value-back (l .item) (s .item), value-back (l .supply) (s .supply), value-back (l .quantity) (s .quantity), lines-written lines (and-right (lineSmall l) (allOf lineSmall lines) e))
 
 record LinesRead (n : ℕ) (fs : List (List ℕ)) : Type 0 where
   back : lineFields (linesRead fs) ≡ fs
@@ -212,11 +142,11 @@ lines-read (suc n) (i ∷ w ∷ q ∷ fs) h e =
 -- ── the fields of each form ──
 -- what is read from the fields of a request's line is the request
 pub record FieldsWritten (r : Request) : Type 0 where
-  pub plain : allOf noTab (fieldsOf r) ≡ true
+  pub plain : allOf (without 9) (fieldsOf r) ≡ true
   pub back : readFields (letter r) (fieldsOf r) ≡ read r
 
-numbers-plain : (fs : List (List ℕ)) → allOf isNumber fs ≡ true → allOf noTab fs ≡ true
-numbers-plain fs e = all-map isNumber noTab number-plain fs e
+numbers-plain : (fs : List (List ℕ)) → allOf isNumber fs ≡ true → allOf (without 9) fs ≡ true
+numbers-plain fs e = all-map isNumber (without 9) (number-plain 9 (omega arith)) fs e
 
 pub fields-written : (r : Request) → hasForm r ≡ true → FieldsWritten r
 unfolding hasForm fieldsOf readFields readNewOrder readPayment readDelivery readOrderStatus readStockLevel
@@ -244,10 +174,10 @@ fields-written (newOrder q lines) e =
         eq-eqb (4 + length (lineFields lines)) (4 + 3 * length lines) whole,
         h .1 .1 .1 .1 .0,
         h .1 .1 .1 .1 .1 .0,
-        value-written (q .warehouse) w,
-        value-written (q .district) k,
-        value-written (q .customer) c,
-        value-written (q .date) t,
+        value-back (q .warehouse) w,
+        value-back (q .district) k,
+        value-back (q .customer) c,
+        value-back (q .date) t,
         lines-written lines ls,
       );
     }
@@ -261,7 +191,7 @@ fields-written (payment q who) e =
     let o = who-written who (h .1 .1 .1 .1 .0) in
     let t = small (q .date) (h .1 .1 .1 .1 .1 .0) in
     let a = small (q .amount) (h .1 .1 .1 .1 .1 .1 .0) in
-    let plain : (n : ℕ) → n < 10000000000 → noTab (decimal n) ≡ true = λ n l. number-plain (decimal n) (number-written n l) in
+    let plain : (n : ℕ) → n < 10000000000 → without 9 (decimal n) ≡ true = λ n l. number-plain 9 (omega arith) (decimal n) (number-written n l) in
     record {
       plain = rw (plain (q .warehouse) w, plain (q .district) k, plain (q .custwarehouse) cw, plain (q .custdistrict) ck, who-plain (whoField who) (o .form), plain (q .date) t, plain (q .amount) a);
       back = rw (
@@ -272,13 +202,13 @@ fields-written (payment q who) e =
         o .form,
         number-written (q .date) t,
         number-written (q .amount) a,
-        value-written (q .warehouse) w,
-        value-written (q .district) k,
-        value-written (q .custwarehouse) cw,
-        value-written (q .custdistrict) ck,
+        value-back (q .warehouse) w,
+        value-back (q .district) k,
+        value-back (q .custwarehouse) cw,
+        value-back (q .custdistrict) ck,
         o .back,
-        value-written (q .date) t,
-        value-written (q .amount) a,
+        value-back (q .date) t,
+        value-back (q .amount) a,
       );
     }
 fields-written (delivery q) e =
@@ -290,7 +220,7 @@ fields-written (delivery q) e =
     rw (number-written (q .warehouse) w, number-written (q .carrier) c, number-written (q .date) t) in
     record {
       plain = numbers-plain (decimal (q .warehouse) ∷ decimal (q .carrier) ∷ decimal (q .date) ∷ []) all;
-      back = rw (all, value-written (q .warehouse) w, value-written (q .carrier) c, value-written (q .date) t);
+      back = rw (all, value-back (q .warehouse) w, value-back (q .carrier) c, value-back (q .date) t);
     }
 fields-written (orderStatus q who) e =
     let h = every-each (hasDigits (q .warehouse) ∷ hasDigits (q .district) ∷ hasWho who ∷ []) e in
@@ -298,8 +228,8 @@ fields-written (orderStatus q who) e =
     let k = small (q .district) (h .1 .0) in
     let o = who-written who (h .1 .1 .0) in
     record {
-      plain = rw (number-plain (decimal (q .warehouse)) (number-written (q .warehouse) w), number-plain (decimal (q .district)) (number-written (q .district) k), who-plain (whoField who) (o .form));
-      back = rw (number-written (q .warehouse) w, number-written (q .district) k, o .form, value-written (q .warehouse) w, value-written (q .district) k, o .back);
+      plain = rw (number-plain 9 (omega arith) (decimal (q .warehouse)) (number-written (q .warehouse) w), number-plain 9 (omega arith) (decimal (q .district)) (number-written (q .district) k), who-plain (whoField who) (o .form));
+      back = rw (number-written (q .warehouse) w, number-written (q .district) k, o .form, value-back (q .warehouse) w, value-back (q .district) k, o .back);
     }
 fields-written (stockLevel q) e =
     let h = every-each (hasDigits (q .warehouse) ∷ hasDigits (q .district) ∷ hasDigits (q .threshold) ∷ []) e in
@@ -310,7 +240,7 @@ fields-written (stockLevel q) e =
     rw (number-written (q .warehouse) w, number-written (q .district) k, number-written (q .threshold) t) in
     record {
       plain = numbers-plain (decimal (q .warehouse) ∷ decimal (q .district) ∷ decimal (q .threshold) ∷ []) all;
-      back = rw (all, value-written (q .warehouse) w, value-written (q .district) k, value-written (q .threshold) t);
+      back = rw (all, value-back (q .warehouse) w, value-back (q .district) k, value-back (q .threshold) t);
     }
 
 -- a request that fields are read as has a form, and these are its letter and its fields
@@ -471,7 +401,7 @@ fields-read x fs r e = n78 (eqb x 78) refl e
     n78 false q h = n80 (eqb x 80) refl h
 
 -- ── both inverse laws ──
-letter-plain : (r : Request) → noTab (letter r ∷ []) ≡ true
+letter-plain : (r : Request) → without 9 (letter r ∷ []) ≡ true
 letter-plain (newOrder q lines) = refl
 letter-plain (payment q who) = refl
 letter-plain (delivery q) = refl
@@ -491,14 +421,14 @@ line-parts body =
 
 -- reading what writing gives is the request
 pub read-written : (r : Request) → hasForm r ≡ true → readLine (lineOf r) ≡ read r
-unfolding lineOf
+unfolding lineOf lineText
 read-written r e =
     let w = fields-written r e in
-    line-parts (letter r ∷ tabbed (fieldsOf r)) ∙ ap readParted (parted-tabbed (letter r ∷ []) (fieldsOf r) (letter-plain r) (w .plain)) ∙ w .back
+    line-parts (joined ((letter r ∷ []) ∷ fieldsOf r)) ∙ ap readParted (parted-joined (letter r ∷ []) (fieldsOf r) (letter-plain r) (w .plain)) ∙ w .back
 
 record PartsRead (p : List (List ℕ)) (r : Request) : Type 0 where
   form : hasForm r ≡ true
-  back : letter r ∷ tabbed (fieldsOf r) ≡ glued p
+  back : joined ((letter r ∷ []) ∷ fieldsOf r) ≡ joined p
 
 parts-read : (p : List (List ℕ)) (r : Request) → readParted p ≡ read r → PartsRead p r
 parts-read [] r e = clash e
@@ -538,11 +468,11 @@ pub record LineRead (s : List ℕ) (r : Request) : Type 0 where
   pub same : lineOf r ≡ s
 
 pub written-read : (s : List ℕ) (r : Request) → readLine s ≡ read r → LineRead s r
-unfolding lineOf
+unfolding lineOf lineText
 written-read s r e =
     let h = ends s r e in
     let p = parts-read (parted (h .body)) r (h .parts) in
-    record { form = p .form; same = ap (λ (l : List ℕ). l ++ (10 ∷ [])) (p .back ∙ glued-parted (h .body)) ∙ sym (h .whole) }
+    record { form = p .form; same = ap (λ (l : List ℕ). l ++ (10 ∷ [])) (p .back ∙ joined-parted (h .body)) ∙ sym (h .whole) }
 
 -- two requests with the same line are the same; two lines with the same request are the same
 pub line-inj : (r s : Request) → hasForm r ≡ true → hasForm s ≡ true → lineOf r ≡ lineOf s → r ≡ s

@@ -4,7 +4,7 @@ use mathlib.Core.Path.{_≡_, refl, sym, ap, _∙_}
 use mathlib.Core.Bool.{Bool, true, false, cond}
 use mathlib.Core.List.{List, [], _∷_, _++_}
 use Prim.Native.Nat.{ℕ, zero, suc, _+_, _-_, _*_, _≤_, _<_}
-use native.Mathlib.Nat.{add-zero, zero-add, add-assoc}
+use native.Mathlib.Nat.{add-zero, zero-add, add-assoc, le-antisymm}
 use native.Mathlib.Numerals.{add-one}
 use native.Mathlib.Omega.{arith}
 use native.Mathlib.Decide.{decLt}
@@ -152,3 +152,23 @@ largest-last f (suc n) j r h = go (f (suc n)) refl h (decLt j (suc n)) (λ q s. 
     go true p g d rec = absurd (omega arith)
     go false p g (yes q) rec = rec (record { lo = r .lo; hi = omega arith }) g
     go false p g (no q) rec = let s : j ≡ suc n = omega arith in ap f s ∙ p
+
+-- the same tests, the same first number
+pub lowest-same : (f g : ℕ → Bool) (k n : ℕ) → ((j : ℕ) → k ≤ j → j < k + n → f j ≡ g j) → lowest f k n ≡ lowest g k n
+unfolding lowest
+lowest-same f g k zero h = refl
+lowest-same f g k (suc n) h =
+    let t = lowest-same f g (suc k) n (λ j l u. h j (omega arith) (omega arith)) in
+    rw (h k (omega arith) (omega arith), t)
+
+-- the same tests, the same largest number
+pub largest-same : (f g : ℕ → Bool) (n : ℕ) → ((j : ℕ) → R n j → f j ≡ g j) → largest f n ≡ largest g n
+unfolding largest
+largest-same f g zero h = refl
+largest-same f g (suc n) h =
+    let p = largest-same f g n (λ j r. h j (record { lo = r .lo; hi = omega (arith, r .hi) })) in
+    rw (p, h (suc n) (record { lo = omega arith; hi = omega arith }))
+
+-- what a loop has made at its end
+pub at-end : {A : Type 0} (f : ℕ → A) {x : A} {i n : ℕ} → i ≤ n → n ≤ i → x ≡ f i → x ≡ f n
+at-end f h k e = e ∙ ap f (le-antisymm h k)

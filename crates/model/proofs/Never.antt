@@ -18,7 +18,7 @@ use Rattle.model.specs.declared.NewOrder.{NewOrder}
 use Rattle.model.specs.declared.OrderStatus.{OrderStatus}
 use Rattle.model.specs.declared.Payment.{Payment}
 use Rattle.model.specs.declared.StockLevel.{StockLevel}
-use Rattle.model.specs.Tests.{every, allOf, failing, Check, chk, fault}
+use Rattle.model.specs.Tests.{every, allOf, failing, Check, chk, fault, within}
 use Rattle.model.specs.Numbers.{nat, cell, balanceOk}
 use Rattle.model.specs.Layout.{shapes, total, numbers, nameBytes}
 use Rattle.model.specs.Store.{num}
@@ -34,7 +34,7 @@ use Rattle.model.specs.StockLevel.{levelAsked, levelUsed, stockLevelFaul
 use Rattle.model.specs.Request.{Request, newOrder, payment, delivery, orderStatus, stockLevel, lent, faultOf, numsAfter}
 use Rattle.model.specs.Tally.{Tally, N, M, charged, count, doneAll}
 use Rattle.model.specs.Claim.{R, Never}
-use Rattle.model.proofs.TestLaws.{every-each, each-every, and-left, and-right, all-to, PassAt, Need, not-answered}
+use Rattle.model.proofs.TestLaws.{every-each, each-every, and-left, and-right, all-to, PassAt, Need, not-answered, in-within, in-range}
 use Rattle.model.proofs.NumberLaws.{nat-pos}
 use Rattle.model.proofs.Fields.{Dimensioned, head-num}
 use Rattle.model.proofs.RowFacts.{WarehouseIn, DistrictIn, CustomerIn, ItemIn, StockIn, OrderIn, in-warehouse, in-district, in-customer, in-item, in-stock, at-customers, at-orders, all-in-map, none-failing, in-all-of}
@@ -59,9 +59,6 @@ avoided n (c ∷ cs) e =
     let rest = avoided n cs (and-right (not (eqb (c .number) n)) (avoids n cs) e) in
     (subst (λ (x : Bool). Need x (c .ok ≡ true)) (sym ne) tt, λ _. rest)
 
-range : (x n : ℕ) → every (leb 1 x ∷ leb x n ∷ []) ≡ true → R n x
-range x n e = let h = every-each (leb 1 x ∷ leb x n ∷ []) e in record { lo = leb-true _ _ (h .0); hi = leb-true _ _ (h .1 .0) }
-
 -- a balance within the money's range on both sides
 bal-fits : (a p : ℕ) → a ≤ 999999999999 → p ≤ 999999999999 → balanceOk (bal a p) ≡ true
 unfolding balanceOk
@@ -80,18 +77,12 @@ dims-pass : (d : Dims) → Dimensioned d → every (dimsTests d) ≡ true
 unfolding dimsTests
 dims-pass d h =
     each-every (dimsTests d) (
-      le-leb _ _ (h .warehouses-low),
+      in-within (d .warehouses) 1 20 (h .warehouses-low) (h .warehouses-high),
       (
-        le-leb _ _ (h .warehouses-high),
+        in-within (d .customers) 1 3000 (h .customers-low) (h .customers-high),
         (
-          le-leb _ _ (h .customers-low),
-          (
-            le-leb _ _ (h .customers-high),
-            (
-              le-leb _ _ (h .items-low),
-              (le-leb _ _ (h .items-high), (le-leb _ _ (h .orders-low), (le-leb _ _ (h .orders-high), (le-leb _ _ (h .histories-low), (le-leb _ _ (h .histories-high), tt))))),
-            ),
-          ),
+          in-within (d .items) 1 100000 (h .items-low) (h .items-high),
+          (in-within (d .orders) 1 10000 (h .orders-low) (h .orders-high), (in-within (d .histories) 1 1000000 (h .histories-low) (h .histories-high), tt)),
         ),
       ),
     )
@@ -215,7 +206,7 @@ module _ (D : Dims) (b₀ : List ℤ) (names : List ℕ) (fr : Fresh D b₀ name
 
   who-pass : (w k : ℕ) (who : Who) → R (D .warehouses) w → R 10 k → every (whoTests D who) ≡ true → whoUsed D b names w k who ≡ true
   unfolding whoUsed
-  who-pass w k (byNumber c) r s e = in-customer D b w k c (customer-row w k c r s (range c (D .customers) e))
+  who-pass w k (byNumber c) r s e = in-customer D b w k c (customer-row w k c r s (in-range c (D .customers) e))
   who-pass w k (byName name) r s e =
       each-every (customersUsed D b w k ∷ namesUsed D names w k ∷ []) (at-customers D b w k (λ c u. customer-row w k c r s u), (fr .named w k r s, tt))
 
@@ -260,12 +251,12 @@ module _ (D : Dims) (b₀ : List ℤ) (names : List ℕ) (fr : Fresh D b₀ name
             λ _. (
               tt,
               λ _.
-                  let f4 = every-each (leb 1 (q .warehouse) ∷ leb (q .warehouse) (D .warehouses) ∷ leb 1 (q .custwarehouse) ∷ leb (q .custwarehouse) (D .warehouses) ∷ []) e4 in
-                  let f5 = every-each (leb 1 (q .district) ∷ leb (q .district) 10 ∷ leb 1 (q .custdistrict) ∷ leb (q .custdistrict) 10 ∷ []) e5 in
-                  let w : R (D .warehouses) (q .warehouse) = record { lo = leb-true _ _ (f4 .0); hi = leb-true _ _ (f4 .1 .0) } in
-                  let cw : R (D .warehouses) (q .custwarehouse) = record { lo = leb-true _ _ (f4 .1 .1 .0); hi = leb-true _ _ (f4 .1 .1 .1 .0) } in
-                  let k : R 10 (q .district) = record { lo = leb-true _ _ (f5 .0); hi = leb-true _ _ (f5 .1 .0) } in
-                  let ck : R 10 (q .custdistrict) = record { lo = leb-true _ _ (f5 .1 .1 .0); hi = leb-true _ _ (f5 .1 .1 .1 .0) } in (
+                  let f4 = every-each (within (q .warehouse) 1 (D .warehouses) ∷ within (q .custwarehouse) 1 (D .warehouses) ∷ []) e4 in
+                  let f5 = every-each (within (q .district) 1 10 ∷ within (q .custdistrict) 1 10 ∷ []) e5 in
+                  let w = in-range (q .warehouse) (D .warehouses) (f4 .0) in
+                  let cw = in-range (q .custwarehouse) (D .warehouses) (f4 .1 .0) in
+                  let k = in-range (q .district) 10 (f5 .0) in
+                  let ck = in-range (q .custdistrict) 10 (f5 .1 .0) in (
                     in-warehouse D b (q .warehouse) (warehouse-row (q .warehouse) w),
                     λ _. (
                       in-district D b (q .warehouse) (q .district) (district-row (q .warehouse) (q .district) w k),
@@ -296,9 +287,9 @@ module _ (D : Dims) (b₀ : List ℤ) (names : List ℕ) (fr : Fresh D b₀ name
               λ _. (
                 tt,
                 λ e8.
-                    let w = range (q .warehouse) (D .warehouses) e4 in
-                    let k = range (q .district) 10 e5 in
-                    let c = range (q .customer) (D .customers) e6 in (
+                    let w = in-range (q .warehouse) (D .warehouses) e4 in
+                    let k = in-range (q .district) 10 e5 in
+                    let c = in-range (q .customer) (D .customers) e6 in (
                       in-warehouse D b (q .warehouse) (warehouse-row (q .warehouse) w),
                       λ _. (
                         in-district D b (q .warehouse) (q .district) (district-row (q .warehouse) (q .district) w k),
@@ -319,7 +310,7 @@ module _ (D : Dims) (b₀ : List ℤ) (names : List ℕ) (fr : Fresh D b₀ name
   delivery-9 : (q : Delivery) → PassAt 9 (chk (headOk b (length names)) 2 ∷ deliveryAsked D q ++ deliveryUsed D b q)
   unfolding deliveryAsked deliveryUsed
   delivery-9 q =
-      (tt, λ _. (tt, λ e4. (tt, λ _. (tt, λ _. (all-to (deliverable D b (q .warehouse)) 10 (λ k s. deliverable-pass (q .warehouse) k (range (q .warehouse) (D .warehouses) e4) s), λ _. tt)))))
+      (tt, λ _. (tt, λ e4. (tt, λ _. (tt, λ _. (all-to (deliverable D b (q .warehouse)) 10 (λ k s. deliverable-pass (q .warehouse) k (in-range (q .warehouse) (D .warehouses) e4) s), λ _. tt)))))
 
   status-9 : (q : OrderStatus) (who : Who) → PassAt 9 (chk (headOk b (length names)) 2 ∷ statusAsked D q who ++ statusUsed D b names q who)
   unfolding statusAsked statusUsed
@@ -332,8 +323,8 @@ module _ (D : Dims) (b₀ : List ℤ) (names : List ℕ) (fr : Fresh D b₀ name
         λ e5. (
           tt,
           λ e6.
-              let w = range (q .warehouse) (D .warehouses) e4 in
-              let k = range (q .district) 10 e5 in (
+              let w = in-range (q .warehouse) (D .warehouses) e4 in
+              let k = in-range (q .district) 10 e5 in (
                 in-district D b (q .warehouse) (q .district) (district-row (q .warehouse) (q .district) w k),
                 λ _. (
                   who-pass (q .warehouse) (q .district) who w k e6,
@@ -356,8 +347,8 @@ module _ (D : Dims) (b₀ : List ℤ) (names : List ℕ) (fr : Fresh D b₀ name
         λ e5. (
           tt,
           λ _.
-              let w = range (q .warehouse) (D .warehouses) e4 in
-              let k = range (q .district) 10 e5 in
+              let w = in-range (q .warehouse) (D .warehouses) e4 in
+              let k = in-range (q .district) 10 e5 in
               let d = district-row (q .warehouse) (q .district) w k in (
                 in-district D b (q .warehouse) (q .district) d,
                 λ _. (

@@ -18,7 +18,7 @@ use Rattle.model.specs.Store.{get, num, rowOf}
 use Rattle.model.specs.Rows.{historyCount, warehouseTax, warehouseYtd, districtTax, districtYtd, nextOrder, customerRow, discount, balance, ytdPayment, paymentCnt, deliveryCnt, price, onHand, stockYtd, orderCnt, remoteCnt, slot, orderRow, historyCol}
 use Rattle.model.specs.Head.{dims}
 use Rattle.model.specs.Payment.{historyNumbers}
-use Rattle.model.specs.Tally.{Tally, Order, Paid, M, is2, is3, addIf, sums, charged}
+use Rattle.model.specs.Tally.{Tally, Order, Paid, M, is2, is3, addIf, charged}
 use Rattle.model.specs.Claim.{R, noPaid}
 use Rattle.model.proofs.TestLaws.{and-left, and-right}
 use Rattle.model.proofs.NumberLaws.{nat-pos}

@@ -2,16 +2,15 @@
 -- Assumes nothing.
 use mathlib.Core.Path.{_≡_, refl}
 use mathlib.Core.Bool.{true}
-use mathlib.Core.List.{List, [], _∷_, _++_}
-use Prim.Native.Nat.{ℕ, _+_, _≤_, _<_}
+use mathlib.Core.List.{List, [], _∷_}
+use Prim.Native.Nat.{ℕ, _≤_, _<_}
 use native.Mathlib.Omega.{arith}
-use lib.Dec.{leb}
 use lib.ListN.{length}
 use lib.IntN.{ℤ}
-use borrow.Author.Tests.{leb-true, ltb-true}
+use borrow.Author.Tests.{ltb-true}
 use Rattle.model.specs.declared.Dims.{Dims}
 use Rattle.model.specs.declared.Payment.{Payment}
-use Rattle.model.specs.Tests.{every, fault, chk}
+use Rattle.model.specs.Tests.{every, fault, within}
 use Rattle.model.specs.Numbers.{maxDate}
 use Rattle.model.specs.Layout.{shapes}
 use Rattle.model.specs.Store.{num}
@@ -20,7 +19,7 @@ use Rattle.model.specs.Names.{Who, whoTests}
 use Rattle.model.specs.Rows.{historyCount}
 use Rattle.model.specs.Payment.{payAsked, payUsed, paymentFault, payer, payOps}
 use Rattle.model.specs.Claim.{R}
-use Rattle.model.proofs.TestLaws.{every-each, passed, numbered, fault-parts}
+use Rattle.model.proofs.TestLaws.{every-each, passed, numbered, within-in, in-range, staged-clear}
 use Rattle.model.proofs.Frame.{Fine}
 use Rattle.model.proofs.Fields.{v0, v1, v2, v3, v7, Shaped, head-shaped}
 use Rattle.model.proofs.RowFacts.{WarehouseIn, DistrictIn, CustomerIn, warehouse-in, district-in}
@@ -63,19 +62,18 @@ pub pay-asked : (d : Dims) (q : Payment) (who : Who) → fault (payAsked d q who
 unfolding payAsked
 pay-asked d q who e =
     let h = passed (payAsked d q who) refl e in
-    let f4 = every-each (leb 1 (q .warehouse) ∷ leb (q .warehouse) (d .warehouses) ∷ leb 1 (q .custwarehouse) ∷ leb (q .custwarehouse) (d .warehouses) ∷ []) (h .0) in
-    let f5 = every-each (leb 1 (q .district) ∷ leb (q .district) 10 ∷ leb 1 (q .custdistrict) ∷ leb (q .custdistrict) 10 ∷ []) (h .1 .0) in
-    let f7 = every-each (leb 1 (q .date) ∷ leb (q .date) maxDate ∷ []) (h .1 .1 .1 .0) in
-    let f8 = every-each (leb 100 (q .amount) ∷ leb (q .amount) 500000 ∷ []) (h .1 .1 .1 .1 .0) in
+    let f4 = every-each (within (q .warehouse) 1 (d .warehouses) ∷ within (q .custwarehouse) 1 (d .warehouses) ∷ []) (h .0) in
+    let f5 = every-each (within (q .district) 1 10 ∷ within (q .custdistrict) 1 10 ∷ []) (h .1 .0) in
+    let f8 = within-in (q .amount) 100 500000 (h .1 .1 .1 .1 .0) in
     record {
-      w = record { lo = leb-true _ _ (f4 .0); hi = leb-true _ _ (f4 .1 .0) };
-      k = record { lo = leb-true _ _ (f5 .0); hi = leb-true _ _ (f5 .1 .0) };
-      cw = record { lo = leb-true _ _ (f4 .1 .1 .0); hi = leb-true _ _ (f4 .1 .1 .1 .0) };
-      ck = record { lo = leb-true _ _ (f5 .1 .1 .0); hi = leb-true _ _ (f5 .1 .1 .1 .0) };
+      w = in-range (q .warehouse) (d .warehouses) (f4 .0);
+      k = in-range (q .district) 10 (f5 .0);
+      cw = in-range (q .custwarehouse) (d .warehouses) (f4 .1 .0);
+      ck = in-range (q .custdistrict) 10 (f5 .1 .0);
       who-ok = h .1 .1 .0;
-      date = record { lo = leb-true _ _ (f7 .0); hi = leb-true _ _ (f7 .1 .0) };
-      amount-low = leb-true _ _ (f8 .0);
-      amount-high = leb-true _ _ (f8 .1 .0);
+      date = in-range (q .date) maxDate (h .1 .1 .1 .0);
+      amount-low = f8 .0;
+      amount-high = f8 .1;
     }
 
 pub pay-used : (d : Dims) (b : List ℤ) (names : List ℕ) (q : Payment) (who : Who) → every (whoTests d who) ≡ true
@@ -96,13 +94,12 @@ pay-used d b names q who a e =
 pub pay-ready : (b : List ℤ) (names : List ℕ) (q : Payment) (who : Who) → paymentFault b names q who .number ≡ 0 → PayReady (dims b) b names q who
 unfolding paymentFault
 pay-ready b names q who e =
-    let h = fault-parts (chk (headOk b (length names)) 2 ∷ []) (payAsked (dims b) q who ++ payUsed (dims b) b names q who) refl e in
-    let r = fault-parts (payAsked (dims b) q who) (payUsed (dims b) b names q who) (pay-asked-numbered (dims b) q who) (h .1) in
-    let a = pay-asked (dims b) q who (r .0) in
+    let h = staged-clear (headOk b (length names)) (payAsked (dims b) q who) (payUsed (dims b) b names q who) (pay-asked-numbered (dims b) q who) e in
+    let a = pay-asked (dims b) q who (h .asked-none) in
     record {
-      shaped = head-shaped b (length names) (passed (chk (headOk b (length names)) 2 ∷ []) refl (h .0) .0);
+      shaped = head-shaped b (length names) (h .fine);
       asked = a;
-      used = pay-used (dims b) b names q who (a .who-ok) (r .1);
+      used = pay-used (dims b) b names q who (a .who-ok) (h .used-none);
     }
 
 -- every change is at an address of the book

@@ -12,7 +12,7 @@ use borrow.Author.Tests.{leb-true, le-leb, eqb-true}
 use Rattle.model.specs.declared.Dims.{Dims}
 use Rattle.model.specs.Tests.{every, allTo, allOf, failing}
 use Rattle.model.specs.Numbers.{nat, balanceOk}
-use Rattle.model.specs.Layout.{shapes, total, numbers, at}
+use Rattle.model.specs.Layout.{shapes, total, numbers}
 use Rattle.model.specs.Store.{get, num, rowOf}
 use Rattle.model.specs.Rows.{warehouseRow, warehouseTax, warehouseYtd, warehouseTests, districtRow, districtTax, districtYtd, nextOrder, districtTests, customerRow, discount, balance, ytdPayment, paymentCnt, deliveryCnt, customerTests, price, itemTests, stockRow, onHand, stockYtd, orderCnt, remoteCnt, stockTests, orderCol, orderRow, orderCustomer, entryDate, carrier, lineCount, waiting, orderTests, line, lineTests, orderOk}
 use Rattle.model.specs.Used.{warehouseUsed, districtUsed, customerUsed, itemUsed, stockUsed, orderUsed, customersUsed, ordersUsed}

@@ -1,26 +1,22 @@
 -- What is known where an Order-Status is not refused: cited by the code's proofs and by the theorem.
 -- Assumes nothing.
-use mathlib.Core.Path.{_≡_, refl, sym, ap, _∙_}
-use mathlib.Core.Bool.{Bool, true, false, cond}
-use mathlib.Core.List.{List, [], _∷_, _++_}
-use Prim.Native.Nat.{ℕ, zero, suc, _+_, _-_}
-use native.Mathlib.Omega.{arith}
-use lib.Dec.{leb, eqb}
+use mathlib.Core.Path.{_≡_, refl}
+use mathlib.Core.Bool.{true}
+use mathlib.Core.List.{List}
+use Prim.Native.Nat.{ℕ, _-_}
 use lib.ListN.{length}
 use lib.IntN.{ℤ}
-use borrow.Author.Tests.{leb-true}
 use Rattle.model.specs.declared.Dims.{Dims}
 use Rattle.model.specs.declared.OrderStatus.{OrderStatus}
-use Rattle.model.specs.Tests.{every, fault, chk}
+use Rattle.model.specs.Tests.{every, fault}
 use Rattle.model.specs.Layout.{shapes}
 use Rattle.model.specs.Store.{num}
 use Rattle.model.specs.Head.{dims, headOk}
 use Rattle.model.specs.Names.{Who, whoTests}
-use Rattle.model.specs.Lists.{largest}
-use Rattle.model.specs.Rows.{nextOrder, orderCustomer}
-use Rattle.model.specs.OrderStatus.{statusAsked, statusUsed, statusFault, statusCustomer, lastOrder}
+use Rattle.model.specs.Rows.{nextOrder}
+use Rattle.model.specs.OrderStatus.{statusAsked, statusUsed, statusFault, statusCustomer}
 use Rattle.model.specs.Claim.{R}
-use Rattle.model.proofs.TestLaws.{every-each, passed, numbered, fault-parts}
+use Rattle.model.proofs.TestLaws.{passed, numbered, in-range, staged-clear}
 use Rattle.model.proofs.Fields.{Shaped, head-shaped}
 use Rattle.model.proofs.RowFacts.{DistrictIn, CustomerIn, OrderIn, district-in, orders-at}
 use Rattle.model.proofs.NameLaws.{found-number}
@@ -56,11 +52,9 @@ pub status-asked : (d : Dims) (q : OrderStatus) (who : Who) → fault (statusAsk
 unfolding statusAsked
 status-asked d q who e =
     let h = passed (statusAsked d q who) refl e in
-    let f4 = every-each (leb 1 (q .warehouse) ∷ leb (q .warehouse) (d .warehouses) ∷ []) (h .0) in
-    let f5 = every-each (leb 1 (q .district) ∷ leb (q .district) 10 ∷ []) (h .1 .0) in
     record {
-      w = record { lo = leb-true _ _ (f4 .0); hi = leb-true _ _ (f4 .1 .0) };
-      k = record { lo = leb-true _ _ (f5 .0); hi = leb-true _ _ (f5 .1 .0) };
+      w = in-range (q .warehouse) (d .warehouses) (h .0);
+      k = in-range (q .district) 10 (h .1 .0);
       who-ok = h .1 .1 .0;
     }
 
@@ -81,26 +75,10 @@ status-used d b names q who a e =
 pub status-ready : (b : List ℤ) (names : List ℕ) (q : OrderStatus) (who : Who) → statusFault b names q who .number ≡ 0 → StatusReady (dims b) b names q who
 unfolding statusFault
 status-ready b names q who e =
-    let h = fault-parts (chk (headOk b (length names)) 2 ∷ []) (statusAsked (dims b) q who ++ statusUsed (dims b) b names q who) refl e in
-    let r = fault-parts (statusAsked (dims b) q who) (statusUsed (dims b) b names q who) (status-asked-numbered (dims b) q who) (h .1) in
-    let a = status-asked (dims b) q who (r .0) in
+    let h = staged-clear (headOk b (length names)) (statusAsked (dims b) q who) (statusUsed (dims b) b names q who) (status-asked-numbered (dims b) q who) e in
+    let a = status-asked (dims b) q who (h .asked-none) in
     record {
-      shaped = head-shaped b (length names) (passed (chk (headOk b (length names)) 2 ∷ []) refl (h .0) .0);
+      shaped = head-shaped b (length names) (h .fine);
       asked = a;
-      used = status-used (dims b) b names q who (a .who-ok) (r .1);
+      used = status-used (dims b) b names q who (a .who-ok) (h .used-none);
     }
-
--- what is largest is one of 1, .., n, and passes
-pub largest-in : (f : ℕ → Bool) (n o : ℕ) → largest f n ≡ suc o → R n (suc o) × (f (suc o) ≡ true)
-unfolding largest
-largest-in f zero o e = absurd (omega arith)
-largest-in f (suc n) o e = go (f (suc n)) refl e (λ q. largest-in f n o q)
-  where
-    go : (t : Bool) → f (suc n) ≡ t → cond t (suc n) (largest f n) ≡ suc o → (largest f n ≡ suc o → R n (suc o) × (f (suc o) ≡ true)) → R (suc n) (suc o) × (f (suc o) ≡ true)
-    go true p e rec = (record { lo = omega arith; hi = omega arith }, ap f (sym e) ∙ p)
-    go false p e rec = let r = rec e in (record { lo = r .0 .lo; hi = omega (arith, r .0 .hi) }, r .1)
-
--- the last order is an order before next
-pub last-in : (d : Dims) (b : List ℤ) (w k c o : ℕ) → lastOrder d b w k c ≡ suc o → R (num (shapes d) b (nextOrder w k) - 1) (suc o)
-unfolding lastOrder
-last-in d b w k c o e = largest-in (λ i. eqb (num (shapes d) b (orderCustomer d w k i)) c) (num (shapes d) b (nextOrder w k) - 1) o e .0

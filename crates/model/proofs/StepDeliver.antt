@@ -18,7 +18,7 @@ use Rattle.model.specs.declared.Dims.{Dims}
 use Rattle.model.specs.Numbers.{nat}
 use Rattle.model.specs.Layout.{shapes, Addr, at}
 use Rattle.model.specs.Store.{get, num, rowOf, Op, run}
-use Rattle.model.specs.Rows.{nextOrder, customerRow, discount, balance, ytdPayment, paymentCnt, deliveryCnt, slot, orderCol, orderRow, waiting}
+use Rattle.model.specs.Rows.{nextOrder, customerRow, discount, balance, ytdPayment, paymentCnt, deliveryCnt, slot, orderCol, orderRow}
 use Rattle.model.specs.Lists.{sumOf, lowest}
 use Rattle.model.specs.Delivery.{waits, oldest, lineAmounts, deliverOps, deliverOrder, deliverDistrict, deliverTo}
 use Rattle.model.specs.Tally.{Tally, Order, N, M, is2, addIf, sums, charged, tallyDistrict, tallyDistricts}

@@ -2,7 +2,7 @@
 -- Assumes nothing.
 use mathlib.Core.Path.{_≡_, refl, sym, ap, _∙_}
 use mathlib.Core.Bool.{Bool, true, false, cond}
-use mathlib.Core.List.{List, [], _∷_, _++_}
+use mathlib.Core.List.{List}
 use Prim.Native.Nat.{ℕ, _+_, _-_, _≤_, _<_}
 use native.Mathlib.Omega.{arith}
 use lib.Dec.{leb}
@@ -11,7 +11,7 @@ use lib.IntN.{ℤ}
 use borrow.Author.Tests.{leb-true, leb-false}
 use Rattle.model.specs.declared.Dims.{Dims}
 use Rattle.model.specs.declared.StockLevel.{StockLevel}
-use Rattle.model.specs.Tests.{fault, chk}
+use Rattle.model.specs.Tests.{fault}
 use Rattle.model.specs.Layout.{shapes}
 use Rattle.model.specs.Store.{num}
 use Rattle.model.specs.Head.{dims, headOk}
@@ -19,7 +19,7 @@ use Rattle.model.specs.Rows.{nextOrder}
 use Rattle.model.specs.Used.{stockUsed, orderUsed}
 use Rattle.model.specs.StockLevel.{windowFirst, windowCount, levelAsked, windowUsed, levelUsed, stockLevelFault}
 use Rattle.model.specs.Claim.{R}
-use Rattle.model.proofs.TestLaws.{every-each, all-at, all-to, passed, numbered, fault-parts}
+use Rattle.model.proofs.TestLaws.{all-at, all-to, passed, numbered, within-in, in-range, staged-clear}
 use Rattle.model.proofs.Fields.{Shaped, head-shaped}
 use Rattle.model.proofs.RowFacts.{DistrictIn, StockIn, OrderIn, district-in, stock-in, order-in, in-order}
 
@@ -71,14 +71,12 @@ pub level-asked : (d : Dims) (q : StockLevel) → fault (levelAsked d q) .number
 unfolding levelAsked
 level-asked d q e =
     let h = passed (levelAsked d q) refl e in
-    let f4 = every-each (leb 1 (q .warehouse) ∷ leb (q .warehouse) (d .warehouses) ∷ []) (h .0) in
-    let f5 = every-each (leb 1 (q .district) ∷ leb (q .district) 10 ∷ []) (h .1 .0) in
-    let f8 = every-each (leb 10 (q .threshold) ∷ leb (q .threshold) 20 ∷ []) (h .1 .1 .0) in
+    let f8 = within-in (q .threshold) 10 20 (h .1 .1 .0) in
     record {
-      w = record { lo = leb-true _ _ (f4 .0); hi = leb-true _ _ (f4 .1 .0) };
-      k = record { lo = leb-true _ _ (f5 .0); hi = leb-true _ _ (f5 .1 .0) };
-      threshold-low = leb-true _ _ (f8 .0);
-      threshold-high = leb-true _ _ (f8 .1 .0);
+      w = in-range (q .warehouse) (d .warehouses) (h .0);
+      k = in-range (q .district) 10 (h .1 .0);
+      threshold-low = f8 .0;
+      threshold-high = f8 .1;
     }
 
 -- one order of the window
@@ -118,10 +116,9 @@ level-used d b q e =
 pub level-ready : (b : List ℤ) (names : List ℕ) (q : StockLevel) → stockLevelFault b names q .number ≡ 0 → LevelReady (dims b) b (length names) q
 unfolding stockLevelFault
 level-ready b names q e =
-    let h = fault-parts (chk (headOk b (length names)) 2 ∷ []) (levelAsked (dims b) q ++ levelUsed (dims b) b q) refl e in
-    let r = fault-parts (levelAsked (dims b) q) (levelUsed (dims b) b q) (level-asked-numbered (dims b) q) (h .1) in
+    let h = staged-clear (headOk b (length names)) (levelAsked (dims b) q) (levelUsed (dims b) b q) (level-asked-numbered (dims b) q) e in
     record {
-      shaped = head-shaped b (length names) (passed (chk (headOk b (length names)) 2 ∷ []) refl (h .0) .0);
-      asked = level-asked (dims b) q (r .0);
-      used = level-used (dims b) b q (r .1);
+      shaped = head-shaped b (length names) (h .fine);
+      asked = level-asked (dims b) q (h .asked-none);
+      used = level-used (dims b) b q (h .used-none);
     }

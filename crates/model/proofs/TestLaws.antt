@@ -2,15 +2,16 @@
 -- Assumes nothing.
 use mathlib.Core.Path.{_≡_, refl, sym, ap, _∙_}
 use mathlib.Core.Logic.{_≢_}
-use mathlib.Core.Bool.{Bool, true, false, _&&_, cond}
+use mathlib.Core.Bool.{Bool, true, false, not, _&&_, cond}
 use mathlib.Core.List.{List, [], _∷_, _++_}
-use Prim.Native.Nat.{ℕ, zero, suc, _+_, _<_}
+use Prim.Native.Nat.{ℕ, zero, suc, _+_, _≤_, _<_}
 use native.Mathlib.Omega.{arith}
 use native.Mathlib.Decide.{ℕ-discrete}
 use native.Mathlib.Numerals.{add-one}
-use lib.Dec.{ltb, eqb}
-use borrow.Author.Tests.{ltb-true, eqb-false}
-use Rattle.model.specs.Tests.{andAll, every, allTo, Check, refusal, fault}
+use lib.Dec.{leb, ltb, eqb}
+use borrow.Author.Tests.{leb-true, le-leb, ltb-true, eqb-false, not-true, not-false}
+use Rattle.model.specs.declared.Refusal.{Refusal}
+use Rattle.model.specs.Tests.{andAll, every, within, allTo, Check, chk, bare, refusal, fault, staged}
 use Rattle.model.specs.Claim.{R}
 
 pub and-left : (a b : Bool) → (a && b) ≡ true → a ≡ true
@@ -23,6 +24,9 @@ and-right false b e = cc
 
 pub and-both : (a b : Bool) → a ≡ true → b ≡ true → (a && b) ≡ true
 and-both a b p q = rw (p, q)
+
+pub and-same : {s t a b : Bool} → s ≡ a → t ≡ b → (s && t) ≡ (a && b)
+and-same p q = rw (p, q)
 
 -- what the tests of a list say one by one
 abbrev pub Each : List Bool → Type 0
@@ -46,6 +50,20 @@ andAll-of a (b ∷ bs) p r = andAll-of (a && b) bs (and-both a b p (r .0)) (r .1
 pub each-every : (bs : List Bool) → Each bs → every bs ≡ true
 each-every [] r = refl
 each-every (b ∷ bs) r = andAll-of b bs (r .0) (r .1)
+
+-- ── a number in its range ──
+pub within-in : (x low top : ℕ) → within x low top ≡ true → (low ≤ x) × (x ≤ top)
+within-in x low top e = let h = every-each (leb low x ∷ leb x top ∷ []) e in (leb-true _ _ (h .0), leb-true _ _ (h .1 .0))
+
+pub in-within : (x low top : ℕ) → low ≤ x → x ≤ top → within x low top ≡ true
+in-within x low top h k = rw (le-leb low x h, le-leb x top k)
+
+pub in-range : (x top : ℕ) → within x 1 top ≡ true → R top x
+in-range x top e = let h = within-in x 1 top e in record { lo = h .0; hi = h .1 }
+
+-- .. as code tests it
+pub passed-range : (x top : ℕ) {t : Bool} → t ≡ within x 1 top → not t ≡ false → R top x
+passed-range x top {t} e s = in-range x top (sym e ∙ not-false t s)
 
 -- ── a test at each of 1 .. n ──
 module _ (f : ℕ → Bool) where
@@ -136,6 +154,37 @@ fault-parts (c ∷ xs) ys n e = go (c .ok) refl (λ q. fault-parts xs ys (and-ri
     go : (x : Bool) → c .ok ≡ x → (fault (xs ++ ys) .number ≡ 0 → (fault xs .number ≡ 0) × (fault ys .number ≡ 0)) → (cond (c .ok) (fault xs) (refusal c) .number ≡ 0) × (fault ys .number ≡ 0)
     go true p rec = rw p (rec (ap (λ (x : Bool). cond x (fault (xs ++ ys)) (refusal c) .number) (sym p) ∙ e))
     go false p rec = fails c xs (xs ++ ys) p n e
+
+-- ── tests in turn, as code makes them: `if !t { return refused(n); }`, t by what its call ensures; f is the first refusal of the tests behind ──
+module _ {t a : Bool} {r : Refusal} (n : ℕ) (f : Refusal) (e : t ≡ a) where
+  pub turned-away : not t ≡ true → r ≡ bare n → r ≡ cond a f (bare n)
+  turned-away s g = g ∙ rw (← e, not-true t s)
+
+  pub passed-on : not t ≡ false → r ≡ f → r ≡ cond a f (bare n)
+  passed-on s g = g ∙ rw (← e, not-false t s)
+
+-- ── a call's stages ──
+-- all three find nothing
+pub record Clear (head : Bool) (asked used : List Check) : Type 0 where
+  pub fine : head ≡ true
+  pub asked-none : fault asked .number ≡ 0
+  pub used-none : fault used .number ≡ 0
+
+module _ (head : Bool) (asked used : List Check) where
+  pub staged-head : head ≡ false → bare 2 ≡ staged head asked used
+  staged-head h = rw h
+
+  pub staged-asked : head ≡ true → fault asked .number ≢ 0 → fault asked ≡ staged head asked used
+  staged-asked h f = rw h (sym (fault-first asked used f))
+
+  pub staged-used : numbered asked ≡ true → head ≡ true → fault asked .number ≡ 0 → fault used ≡ staged head asked used
+  staged-used n h f = rw h (sym (fault-then asked used f n))
+
+  pub staged-clear : numbered asked ≡ true → staged head asked used .number ≡ 0 → Clear head asked used
+  staged-clear n e =
+      let h = fault-parts (chk head 2 ∷ []) (asked ++ used) refl e in
+      let r = fault-parts asked used n (h .1) in
+      record { fine = passed (chk head 2 ∷ []) refl (h .0) .0; asked-none = r .0; used-none = r .1 }
 
 -- what keeps a number from being answered: each of its tests holds wherever those before it do
 abbrev pub Need : Bool → Type 0 → Type 0

@@ -7,7 +7,7 @@ use lib.Dec.{leb, eqb}
 use lib.ListN.{length}
 use lib.IntN.{ℤ}
 use Rattle.model.specs.declared.Dims.{Dims}
-use Rattle.model.specs.Tests.{every}
+use Rattle.model.specs.Tests.{every, within}
 use Rattle.model.specs.Numbers.{cell}
 use Rattle.model.specs.Layout.{numbers, nameBytes}
 
@@ -17,16 +17,11 @@ dims b = record { warehouses = cell b 0; customers = cell b 1; items = cell b 2;
 
 unfoldable pub dimsTests : Dims → List Bool
 dimsTests d =
-    leb 1 (d .warehouses)
-    ∷ leb (d .warehouses) 20
-    ∷ leb 1 (d .customers)
-    ∷ leb (d .customers) 3000
-    ∷ leb 1 (d .items)
-    ∷ leb (d .items) 100000
-    ∷ leb 1 (d .orders)
-    ∷ leb (d .orders) 10000
-    ∷ leb 1 (d .histories)
-    ∷ leb (d .histories) 1000000
+    within (d .warehouses) 1 20
+    ∷ within (d .customers) 1 3000
+    ∷ within (d .items) 1 100000
+    ∷ within (d .orders) 1 10000
+    ∷ within (d .histories) 1 1000000
     ∷ []
 
 -- the history count, and both lengths; n is the number of name bytes

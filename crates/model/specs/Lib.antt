@@ -1,6 +1,7 @@
 -- The rules of document 01, in its order.
 pub mod Tests
 pub mod Numbers
+pub mod Text
 pub mod Layout
 pub mod Store
 pub mod Rows
@@ -20,3 +21,4 @@ pub mod RequestLine
 pub mod AnswerLine
 pub mod Tally
 pub mod Claim
+pub mod Contracts

@@ -1,14 +1,14 @@
 -- "Order-Status (depot, district, who)."
 -- Assumes nothing.
-use mathlib.Core.List.{List, [], _∷_, _++_}
+use mathlib.Core.List.{List, [], _∷_}
 use Prim.Native.Nat.{ℕ, zero, suc, _-_, _*_}
-use lib.Dec.{leb, eqb}
+use lib.Dec.{eqb}
 use lib.IntN.{ℤ, pos}
 use lib.ListN.{length, take, drop}
 use Rattle.model.specs.declared.Dims.{Dims}
 use Rattle.model.specs.declared.OrderStatus.{OrderStatus}
 use Rattle.model.specs.declared.Refusal.{Refusal}
-use Rattle.model.specs.Tests.{every, Check, chk, fault}
+use Rattle.model.specs.Tests.{every, within, Check, chk, staged}
 use Rattle.model.specs.Layout.{shapes, place}
 use Rattle.model.specs.Store.{get, num}
 use Rattle.model.specs.Rows.{nextOrder, balance, orderCol, orderCustomer, entryDate, carrier, lineCount}
@@ -21,8 +21,8 @@ use Rattle.model.specs.Answer.{Answer, answerBy, leftBy}
 -- what the request decides
 unfoldable pub statusAsked : Dims → OrderStatus → Who → List Check
 statusAsked d q who =
-    chk (every (leb 1 (q .warehouse) ∷ leb (q .warehouse) (d .warehouses) ∷ [])) 4
-    ∷ chk (every (leb 1 (q .district) ∷ leb (q .district) 10 ∷ [])) 5
+    chk (within (q .warehouse) 1 (d .warehouses)) 4
+    ∷ chk (within (q .district) 1 10) 5
     ∷ chk (every (whoTests d who)) 6
     ∷ []
 
@@ -36,7 +36,7 @@ statusUsed d b names q who =
     ∷ []
 
 unfoldable pub statusFault : List ℤ → List ℕ → OrderStatus → Who → Refusal
-statusFault b names q who = fault (chk (headOk b (length names)) 2 ∷ statusAsked (dims b) q who ++ statusUsed (dims b) b names q who)
+statusFault b names q who = staged (headOk b (length names)) (statusAsked (dims b) q who) (statusUsed (dims b) b names q who)
 
 -- "the largest order number of that customer"; 0 where it has none
 unfoldable pub lastOrder : Dims → List ℤ → ℕ → ℕ → ℕ → ℕ

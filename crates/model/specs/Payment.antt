@@ -1,14 +1,14 @@
 -- "Payment (depot, district, customer's depot and district, who, date, amount 100 to 500,000)."
 -- Assumes nothing.
-use mathlib.Core.List.{List, [], _∷_, _++_}
+use mathlib.Core.List.{List, [], _∷_}
 use Prim.Native.Nat.{ℕ, suc}
-use lib.Dec.{leb, ltb}
+use lib.Dec.{ltb}
 use lib.IntN.{ℤ, pos, _+ℤ_, _-ℤ_}
 use lib.ListN.{length, getD}
 use Rattle.model.specs.declared.Dims.{Dims}
 use Rattle.model.specs.declared.Payment.{Payment}
 use Rattle.model.specs.declared.Refusal.{Refusal}
-use Rattle.model.specs.Tests.{every, Check, chk, fault}
+use Rattle.model.specs.Tests.{every, within, Check, chk, staged}
 use Rattle.model.specs.Numbers.{maxDate}
 use Rattle.model.specs.Layout.{shapes}
 use Rattle.model.specs.Store.{get, num, Op, one, row, run}
@@ -21,11 +21,11 @@ use Rattle.model.specs.Answer.{Answer, answerBy, leftBy}
 -- what the request decides
 unfoldable pub payAsked : Dims → Payment → Who → List Check
 payAsked d q who =
-    chk (every (leb 1 (q .warehouse) ∷ leb (q .warehouse) (d .warehouses) ∷ leb 1 (q .custwarehouse) ∷ leb (q .custwarehouse) (d .warehouses) ∷ [])) 4
-    ∷ chk (every (leb 1 (q .district) ∷ leb (q .district) 10 ∷ leb 1 (q .custdistrict) ∷ leb (q .custdistrict) 10 ∷ [])) 5
+    chk (every (within (q .warehouse) 1 (d .warehouses) ∷ within (q .custwarehouse) 1 (d .warehouses) ∷ [])) 4
+    ∷ chk (every (within (q .district) 1 10 ∷ within (q .custdistrict) 1 10 ∷ [])) 5
     ∷ chk (every (whoTests d who)) 6
-    ∷ chk (every (leb 1 (q .date) ∷ leb (q .date) maxDate ∷ [])) 7
-    ∷ chk (every (leb 100 (q .amount) ∷ leb (q .amount) 500000 ∷ [])) 8
+    ∷ chk (within (q .date) 1 maxDate) 7
+    ∷ chk (within (q .amount) 100 500000) 8
     ∷ []
 
 -- what the rows and names decide. 9: "Payment: depot, district, the customer, or by name all customers of its district."
@@ -40,7 +40,7 @@ payUsed d b names q who =
     ∷ []
 
 unfoldable pub paymentFault : List ℤ → List ℕ → Payment → Who → Refusal
-paymentFault b names q who = fault (chk (headOk b (length names)) 2 ∷ payAsked (dims b) q who ++ payUsed (dims b) b names q who)
+paymentFault b names q who = staged (headOk b (length names)) (payAsked (dims b) q who) (payUsed (dims b) b names q who)
 
 -- the customer who pays
 unfoldable pub payer : Dims → List ℕ → Payment → Who → ℕ

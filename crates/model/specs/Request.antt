@@ -1,7 +1,7 @@
 -- A request of any kind, and what carrying it out answers and leaves.
 -- Assumes nothing.
 use mathlib.Core.List.{List, [], _∷_}
-use Prim.Native.Nat.{ℕ, _-_}
+use Prim.Native.Nat.{ℕ}
 use lib.IntN.{ℤ}
 use lib.ListN.{getD, take, drop, replicate}
 use Rattle.model.specs.declared.Delivery.{Delivery}
@@ -9,7 +9,6 @@ use Rattle.model.specs.declared.Form.{Form}
 use Rattle.model.specs.declared.Form.the-variants as Form
 use Rattle.model.specs.declared.LastName.{LastName}
 use Rattle.model.specs.declared.Line.{Line}
-use Rattle.model.specs.declared.Lines.{Lines}
 use Rattle.model.specs.declared.NewOrder.{NewOrder}
 use Rattle.model.specs.declared.OrderStatus.{OrderStatus}
 use Rattle.model.specs.declared.Part.{Part}
@@ -17,7 +16,6 @@ use Rattle.model.specs.declared.Payment.{Payment}
 use Rattle.model.specs.declared.Refusal.{Refusal}
 use Rattle.model.specs.declared.StockLevel.{StockLevel}
 use Rattle.model.specs.Names.{Who, whoOf}
-use Rattle.model.specs.Lists.{upTo}
 use Rattle.model.specs.Answer.{Answer}
 use Rattle.model.specs.NewOrder.{newOrderFault, newOrderAnswer, newOrderBook}
 use Rattle.model.specs.Payment.{paymentFault, paymentAnswer, paymentBook}
@@ -51,10 +49,7 @@ linesOf (i ∷ is) (s ∷ ss) (q ∷ qs) = record { item = i; supply = s; quanti
 abbrev pub lineAt : List ℕ → List ℕ → List ℕ → ℕ → Line
 lineAt is ss qs i = record { item = getD is i 0; supply = getD ss i 0; quantity = getD qs i 0 }
 
--- the lines and the last name that arrays of fixed length hold
-abbrev pub linesIn : Lines → List Line
-linesIn l = upTo (l .count) (λ j. record { item = getD (l .items) (j - 1) 0; supply = getD (l .supplies) (j - 1) 0; quantity = getD (l .quantities) (j - 1) 0 })
-
+-- the last name that an array of fixed length holds
 abbrev pub nameIn : LastName → List ℕ
 nameIn n = take (n .length) (n .bytes)
 

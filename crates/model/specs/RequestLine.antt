@@ -1,10 +1,10 @@
 -- Request lines: which requests have one, its bytes, what reading a line answers, what writing leaves.
--- Bytes: 9 tab, 10 the line's end, 32 space, 35 #, 48 to 57 digits, 61 =, 68 D, 76 L, 78 N, 80 P, 83 S.
+-- Bytes: 10 the line's end, 32 space, 35 #, 61 =, 68 D, 76 L, 78 N, 80 P, 83 S.
 -- Assumes nothing.
-use mathlib.Core.Bool.{Bool, false, _&&_, _||_, not, cond}
+use mathlib.Core.Bool.{Bool, false, _&&_, not, cond}
 use mathlib.Core.List.{List, [], _∷_, _++_}
-use Prim.Native.Nat.{ℕ, zero, suc, _+_, _-_, _*_, _/_, _%_}
-use lib.Dec.{leb, ltb, eqb}
+use Prim.Native.Nat.{ℕ, _+_, _-_, _*_, _/_}
+use lib.Dec.{leb, eqb}
 use lib.IntN.{pos}
 use lib.ListN.{length, getD, take, drop, replicate}
 use Rattle.model.specs.declared.Form.{Form}
@@ -20,34 +20,10 @@ use Rattle.model.specs.declared.Selection.the-variants as Selection
 use Rattle.model.specs.declared.WriteOutcome.{WriteOutcome}
 use Rattle.model.specs.declared.WriteOutcome.the-variants as WriteCase
 use Rattle.model.specs.Tests.{every, allOf, chk, fault}
+use Rattle.model.specs.Text.{isNumber, valueOf, hasDigits, decimal, parted, lineText}
 use Rattle.model.specs.Names.{Who, byNumber, byName}
 use Rattle.model.specs.Answer.{Answer, committed, refused, answerBy, leftBy}
 use Rattle.model.specs.Request.{Request, newOrder, payment, delivery, orderStatus, stockLevel}
-
--- "Numbers: decimal, at most ten digits, no leading zero but "0" itself."
-abbrev pub isDigit : ℕ → Bool
-isDigit x = leb 48 x && leb x 57
-
-unfoldable pub isNumber : List ℕ → Bool
-isNumber f = every (leb 1 (length f) ∷ leb (length f) 10 ∷ allOf isDigit f ∷ (eqb (length f) 1 || not (eqb (getD f 0 0) 48)) ∷ [])
-
-abbrev pub valueFrom : ℕ → List ℕ → ℕ
-valueFrom v [] = v
-valueFrom v (x ∷ f) = valueFrom (v * 10 + (x - 48)) f
-
-unfoldable pub valueOf : List ℕ → ℕ
-valueOf f = valueFrom 0 f
-
--- a number is written in its decimal digits; one of more than ten has no form
-abbrev pub hasDigits : ℕ → Bool
-hasDigits n = ltb n 10000000000
-
-abbrev pub digits : ℕ → ℕ → List ℕ
-digits zero n = (48 + n) ∷ []
-digits (suc f) n = cond (ltb n 10) ((48 + n) ∷ []) (digits f (n / 10) ++ ((48 + n % 10) ∷ []))
-
-unfoldable pub decimal : ℕ → List ℕ
-decimal n = digits 9 n
 
 -- "Who: # and a number, or = and a name of 1 to 16 bytes 32 to 126, no space at either end."
 abbrev pub isPrintable : ℕ → Bool
@@ -116,23 +92,9 @@ fieldsOf (delivery q) = decimal (q .warehouse) ∷ decimal (q .carrier) ∷ deci
 fieldsOf (orderStatus q who) = decimal (q .warehouse) ∷ decimal (q .district) ∷ whoField who ∷ []
 fieldsOf (stockLevel q) = decimal (q .warehouse) ∷ decimal (q .district) ∷ decimal (q .threshold) ∷ []
 
--- "Fields are parted by one tab, a line ends with byte 10"
-abbrev pub tabbed : List (List ℕ) → List ℕ
-tabbed [] = []
-tabbed (f ∷ fs) = 9 ∷ f ++ tabbed fs
-
 -- the line of a request
 unfoldable pub lineOf : Request → List ℕ
-lineOf r = letter r ∷ tabbed (fieldsOf r) ++ (10 ∷ [])
-
--- the fields of a line without its byte 10
-abbrev pub onto : ℕ → List (List ℕ) → List (List ℕ)
-onto x [] = (x ∷ []) ∷ []
-onto x (f ∷ fs) = (x ∷ f) ∷ fs
-
-unfoldable pub parted : List ℕ → List (List ℕ)
-parted [] = [] ∷ []
-parted (x ∷ s) = cond (eqb x 9) ([] ∷ parted s) (onto x (parted s))
+lineOf r = lineText ((letter r ∷ []) ∷ fieldsOf r)
 
 -- what reading a line answers: the request, or 1
 pub data Reading : Type 0 where

@@ -9,7 +9,7 @@ use lib.ListN.{length}
 use Rattle.model.specs.declared.Dims.{Dims}
 use Rattle.model.specs.declared.Refusal.{Refusal}
 use Rattle.model.specs.declared.StockLevel.{StockLevel}
-use Rattle.model.specs.Tests.{every, allTo, Check, chk, fault}
+use Rattle.model.specs.Tests.{within, allTo, Check, chk, staged}
 use Rattle.model.specs.Numbers.{nat}
 use Rattle.model.specs.Layout.{shapes}
 use Rattle.model.specs.Store.{num, rowOf}
@@ -29,9 +29,9 @@ windowCount next = next - windowFirst next
 -- what the request decides
 unfoldable pub levelAsked : Dims → StockLevel → List Check
 levelAsked d q =
-    chk (every (leb 1 (q .warehouse) ∷ leb (q .warehouse) (d .warehouses) ∷ [])) 4
-    ∷ chk (every (leb 1 (q .district) ∷ leb (q .district) 10 ∷ [])) 5
-    ∷ chk (every (leb 10 (q .threshold) ∷ leb (q .threshold) 20 ∷ [])) 8
+    chk (within (q .warehouse) 1 (d .warehouses)) 4
+    ∷ chk (within (q .district) 1 10) 5
+    ∷ chk (within (q .threshold) 10 20) 8
     ∷ []
 
 -- the windowed orders of a district
@@ -49,7 +49,7 @@ levelUsed d b q =
     ∷ []
 
 unfoldable pub stockLevelFault : List ℤ → List ℕ → StockLevel → Refusal
-stockLevelFault b names q = fault (chk (headOk b (length names)) 2 ∷ levelAsked (dims b) q ++ levelUsed (dims b) b q)
+stockLevelFault b names q = staged (headOk b (length names)) (levelAsked (dims b) q) (levelUsed (dims b) b q)
 
 -- the items on an order's lines in use
 unfoldable pub lineItems : (ℕ → ℤ) → List ℕ

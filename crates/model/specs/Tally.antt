@@ -6,7 +6,6 @@ use Prim.Native.Nat.{ℕ, zero, suc, _+_, _*_}
 use lib.Dec.{ltb, eqb}
 use lib.IntN.{ℤ}
 use lib.ListN.{length, take}
-use Rattle.model.specs.declared.Delivery.{Delivery}
 use Rattle.model.specs.declared.Line.{Line}
 use Rattle.model.specs.declared.Payment.{Payment}
 use Rattle.model.specs.Layout.{shapes}

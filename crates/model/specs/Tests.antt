@@ -1,9 +1,9 @@
 -- Tests, and refusals as lists of numbered tests in checking order. `cond test a b` of the library is a where the test is true, else b.
 -- Assumes nothing.
 use mathlib.Core.Bool.{Bool, true, _&&_, cond}
-use mathlib.Core.List.{List, [], _∷_}
+use mathlib.Core.List.{List, [], _∷_, _++_}
 use Prim.Native.Nat.{ℕ, zero, suc}
-use lib.Dec.{eqb}
+use lib.Dec.{leb, eqb}
 use Rattle.model.specs.declared.Refusal.{Refusal}
 
 abbrev pub andAll : Bool → List Bool → Bool
@@ -14,6 +14,10 @@ andAll a (b ∷ bs) = andAll (a && b) bs
 abbrev pub every : List Bool → Bool
 every [] = true
 every (b ∷ bs) = andAll b bs
+
+-- a number is one of low, .., top
+abbrev pub within : ℕ → ℕ → ℕ → Bool
+within x low top = every (leb low x ∷ leb x top ∷ [])
 
 -- a test holds at each of 1, .., n
 unfoldable pub allTo : ℕ → (ℕ → Bool) → Bool
@@ -33,13 +37,21 @@ chk t n = record { ok = t; number = n; detail = 0 }
 abbrev pub chkLine : ℕ → ℕ → Check
 chkLine place n = record { ok = eqb place 0; number = n; detail = place }
 
+-- a refusal without detail
+abbrev pub bare : ℕ → Refusal
+bare n = record { number = n; detail = 0 }
+
 abbrev pub refusal : Check → Refusal
 refusal c = record { number = c .number; detail = c .detail }
 
 -- the first refusal that fits: that of the first test that fails; number 0 where all hold
 abbrev pub fault : List Check → Refusal
-fault [] = record { number = 0; detail = 0 }
+fault [] = bare 0
 fault (c ∷ cs) = cond (c .ok) (fault cs) (refusal c)
+
+-- a call's stages: 2, then what the request decides, then what the rows decide
+abbrev pub staged : Bool → List Check → List Check → Refusal
+staged head asked used = fault (chk head 2 ∷ asked ++ used)
 
 module _ {A : Type 0} where
   -- a test holds of every entry

@@ -1,10 +1,3 @@
 -- The modules of the crate's proofs that belong to no one function.
-pub mod Stages
-pub mod Taking
-pub mod Filling
-pub mod Entering
-pub mod Pricing
-pub mod Joining
-pub mod Deciding
-pub mod Carried
-pub mod Zipped
+pub mod Turns
+pub mod Walk

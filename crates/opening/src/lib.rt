@@ -4,12 +4,14 @@ ghost use lib.ListN.{length};
 ghost use Rattle.model.specs.Tests.{every, allTo};
 ghost use Rattle.model.specs.Store.{from};
 ghost use Rattle.model.specs.Used.{itemUsed};
-ghost use Rattle.model.specs.Answer.{openingSays};
-ghost use Rattle.model.specs.Opening.{newWarehouse, newDistrict, newCustomer, newStock, districtNew, warehouseNew, bookNew, openingAnswer};
+ghost use Rattle.model.specs.Answer.{refused, openingSays};
+ghost use Rattle.model.specs.Contracts.{OpeningCall};
+ghost use Rattle.model.specs.Opening.{newWarehouse, newDistrict, newCustomer, newStock, districtNew, warehouseNew, bookNew};
 ghost use Rattle.model.specs.Claim.{R};
 ghost use Rattle.model.proofs.Fields.{Shaped};
 ghost use Rattle.rows.specs.Book.{Booked};
 ghost use Rattle.opening.specs.New.{customerNew, stockNew};
+use layout::Head;
 use model::Dims;
 use model::OpeningAnswer;
 use model::OpeningOutcome;
@@ -190,25 +192,24 @@ fn book_new(b: &[i64], names: &[u8], d: Dims) -> bool
     items_used(b, d)
 }
 
+// A book that is not accepted.
+fn turned_away(refusal: Refusal) -> OpeningAnswer
+    ensures { λ r. ⌜ openingSays (r .outcome) ≡ refused refusal ⌝ }
+{
+    let outcome = OpeningOutcome::Refused(refusal);
+    OpeningAnswer { outcome }
+}
+
 // Opening, which writes nothing.
 pub fn opening(b: &[i64], names: &[u8]) -> OpeningAnswer
-    ensures { λ r. ⌜ openingSays (r .outcome) ≡ openingAnswer (now (b .entry)) (now (names .entry)) ⌝ }
+    ensures { λ r. ⌜ OpeningCall (now (b .entry)) (now (names .entry)) r ⌝ }
 {
-    if layout::head_ok(b, names) {
-        let d = layout::dims_of(b);
-        if book_new(b, names, d) {
-            let outcome = OpeningOutcome::Accepted;
-            return OpeningAnswer { outcome };
-        }
-        let outcome = OpeningOutcome::Refused(Refusal {
-            number: 3,
-            detail: 0,
-        });
-        return OpeningAnswer { outcome };
+    let Head::Book(d) = layout::head_of(b, names) else {
+        return turned_away(cells::refused(2));
+    };
+    if !book_new(b, names, d) {
+        return turned_away(cells::refused(3));
     }
-    let outcome = OpeningOutcome::Refused(Refusal {
-        number: 2,
-        detail: 0,
-    });
+    let outcome = OpeningOutcome::Accepted;
     OpeningAnswer { outcome }
 }

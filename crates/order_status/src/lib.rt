@@ -3,25 +3,27 @@ ghost use mathlib.Core.Logic.{_≢_};
 ghost use mathlib.Core.Bool.{true};
 ghost use mathlib.Core.List.{[], _∷_};
 ghost use Prim.Native.Nat.{_+_, _*_, _≤_};
-ghost use lib.Dec.{leb};
 ghost use lib.IntN.{pos};
 ghost use lib.ListN.{length};
 ghost use Rattle.model.specs.Tests.{every, allTo, fault};
 ghost use Rattle.model.specs.Layout.{shapes, nameBytes};
 ghost use Rattle.model.specs.Store.{get, num};
 ghost use Rattle.model.specs.Rows.{balance, lineCount};
-ghost use Rattle.model.specs.Head.{dims};
 ghost use Rattle.model.specs.Names.{whoOf, whoTests, customerOf, foundNumber};
 ghost use Rattle.model.specs.Lists.{largest};
 ghost use Rattle.model.specs.Used.{districtUsed, ordersUsed, whoUsed};
-ghost use Rattle.model.specs.Answer.{statusSays};
-ghost use Rattle.model.specs.OrderStatus.{statusAsked, statusUsed, statusFault, lastOrder, statusCustomer, statusOrder, orderShown, linesShown, statusAnswer, statusLines};
+ghost use Rattle.model.specs.Answer.{refused, statusSays};
+ghost use Rattle.model.specs.OrderStatus.{statusAsked, lastOrder, orderShown, linesShown};
 ghost use Rattle.model.specs.Request.{partOf};
 ghost use Rattle.model.specs.Claim.{R};
 ghost use Rattle.model.proofs.Fields.{Dimensioned, Shaped};
 ghost use Rattle.model.proofs.StatusFacts.{StatusAsked};
-ghost use Rattle.rows.specs.Book.{Booked};
-ghost use Rattle.order_status.specs.Seen.{seenBy, nothing, scannedBy, okAt, isAt};
+ghost use Rattle.model.specs.Contracts.{StatusCall};
+ghost use Rattle.layout.specs.Runs.{RowsIn};
+ghost use Rattle.rows.specs.Book.{Booked, okAt};
+ghost use Rattle.order_status.specs.Seen.{seenUsed, seenIn, nothing, scannedBy, isAt, ShownCall};
+use layout::Head;
+use layout::Run;
 use model::Dims;
 use model::Found;
 use model::OrderStatus;
@@ -56,53 +58,27 @@ pub struct StatusAnswer<'a> {
     pub lines: &'a [i64],
 }
 
-// The warehouse is one of the book.
-fn warehouse_ok(d: Dims, q: OrderStatus) -> bool
-    ensures { λ r. ⌜ r ≡ every (leb 1 (q .warehouse) ∷ leb (q .warehouse) (d .warehouses) ∷ []) ⌝ }
-{
-    (1 <= q.warehouse) & (q.warehouse <= d.warehouses)
-}
-
-// The district is one of a warehouse.
-fn district_ok(q: OrderStatus) -> bool
-    ensures { λ r. ⌜ r ≡ every (leb 1 (q .district) ∷ leb (q .district) 10 ∷ []) ⌝ }
-{
-    (1 <= q.district) & (q.district <= 10)
-}
-
 // The first refusal that the request alone decides.
 fn asked(d: Dims, q: OrderStatus, who: Selection, name: &[u8]) -> Refusal
     ensures { λ r. ⌜ r ≡ fault (statusAsked d q (whoOf who (now (name .entry)))) ⌝ }
 {
-    if !warehouse_ok(d, q) {
-        return Refusal {
-            number: 4,
-            detail: 0,
-        };
+    if !cells::within(q.warehouse, 1, d.warehouses) {
+        return cells::refused(4);
     }
-    if !district_ok(q) {
-        return Refusal {
-            number: 5,
-            detail: 0,
-        };
+    if !cells::within(q.district, 1, 10) {
+        return cells::refused(5);
     }
     if !lookup::who_ok(d, who, name) {
-        return Refusal {
-            number: 6,
-            detail: 0,
-        };
+        return cells::refused(6);
     }
-    Refusal {
-        number: 0,
-        detail: 0,
-    }
+    cells::refused(0)
 }
 
 // Nothing is seen.
-fn refused(number: u64) -> Seen
+fn nothing_seen(number: u64) -> Seen
     ensures { λ r. ⌜ r ≡ nothing number ⌝ }
 {
-    let refusal = Refusal { number, detail: 0 };
+    let refusal = cells::refused(number);
     Seen {
         refusal,
         customer: 0,
@@ -110,15 +86,16 @@ fn refused(number: u64) -> Seen
     }
 }
 
-// One pass over n orders' rows, the first of which starts at base: whether each is in range, and the last that is of a customer, 0 where none is.
-fn scan(b: &[i64], d: Dims, base: u64, c: u64, n: u64) -> Scanned
-    requires { ⌜ Dimensioned d × (base + 81 * n ≤ length (now b)) ⌝ }
-    ensures { λ r. ⌜ r ≡ scannedBy (allTo n (okAt d (now (b .entry)) base)) (largest (isAt (now (b .entry)) base c) n) ⌝ }
+// One pass over a run of orders' rows: whether each is in range, and the last that is of a customer, 0 where none is.
+fn scan(b: &[i64], d: Dims, run: Run, c: u64) -> Scanned
+    requires { ⌜ Dimensioned d × RowsIn run (length (now b)) ⌝ }
+    ensures { λ r. ⌜ r ≡ scannedBy (allTo (run .count) (okAt d (now (b .entry)) run)) (largest (isAt (now (b .entry)) run c) (run .count)) ⌝ }
 {
+    let n = run.count;
     let mut o = 0;
     let mut last = 0;
     while o < n {
-        let p = base + 81 * o;
+        let p = layout::order_in(run, o);
         if !rows::order_ok(b, d, p) {
             return Scanned {
                 fine: false,
@@ -140,9 +117,9 @@ fn orders_scanned(b: &[i64], d: Dims, w: u64, k: u64, c: u64) -> Scanned
     ensures { λ r. ⌜ r ≡ scannedBy (ordersUsed d (now (b .entry)) w k) (lastOrder d (now (b .entry)) w k c) ⌝ }
 {
     let next = rows::next_order(b, d, w, k);
-    let base = layout::order_at(d, w, k, 1);
     let n = next - 1;
-    scan(b, d, base, c, n)
+    let run = layout::orders_run(d, w, k, 1, n);
+    scan(b, d, run, c)
 }
 
 // The customer that a request names, by number or by last name.
@@ -168,7 +145,8 @@ fn number_of(found: Found) -> u64
 
 // The row of a customer given by number is in range, or by last name all rows and names of the district's customers.
 fn who_used(b: &[i64], names: &[u8], d: Dims, w: u64, k: u64, who: Selection, name: &[u8]) -> bool
-    requires { ⌜ Booked d (now b) × (R (d .warehouses) w × (R 10 k × ((length (now names) ≡ nameBytes d) × (every (whoTests d (whoOf who (now name))) ≡ true)))) ⌝ }
+    requires { ⌜ Booked d (now b) × (R (d .warehouses) w × (R 10 k
+        × ((length (now names) ≡ nameBytes d) × (every (whoTests d (whoOf who (now name))) ≡ true)))) ⌝ }
     ensures { λ r. ⌜ r ≡ whoUsed d (now (b .entry)) (now (names .entry)) w k (whoOf who (now (name .entry))) ⌝ }
 {
     match who {
@@ -180,28 +158,25 @@ fn who_used(b: &[i64], names: &[u8], d: Dims, w: u64, k: u64, who: Selection, na
 // The first refusal that the rows and names decide, the customer and its last order.
 fn used(b: &[i64], names: &[u8], d: Dims, q: OrderStatus, who: Selection, name: &[u8]) -> Seen
     requires { ⌜ Shaped d (now b) (length (now names)) × StatusAsked d q (whoOf who (now name)) ⌝ }
-    ensures { λ r. ⌜ r ≡ seenBy (fault (statusUsed d (now (b .entry)) (now (names .entry)) q (whoOf who (now (name .entry))))) (statusCustomer d (now (names .entry)) q (whoOf who (now (name .entry)))) (statusOrder d (now (b .entry)) (now (names .entry)) q (whoOf who (now (name .entry)))) ⌝ }
+    ensures { λ r. ⌜ r ≡ seenUsed d (now (b .entry)) (now (names .entry)) q (whoOf who (now (name .entry))) ⌝ }
 {
     if !rows::district_used(b, d, q.warehouse, q.district) {
-        return refused(9);
+        return nothing_seen(9);
     }
     if !who_used(b, names, d, q.warehouse, q.district, who, name) {
-        return refused(9);
+        return nothing_seen(9);
     }
     let found = customer_of(names, d, q.warehouse, q.district, who, name);
     let number = number_of(found);
     let s = orders_scanned(b, d, q.warehouse, q.district, number);
     if !s.fine {
-        return refused(9);
+        return nothing_seen(9);
     }
     let Found::Customer(c) = found else {
-        return refused(10);
+        return nothing_seen(10);
     };
     let order = s.last;
-    let refusal = Refusal {
-        number: 0,
-        detail: 0,
-    };
+    let refusal = cells::refused(0);
     Seen {
         refusal,
         customer: c,
@@ -209,14 +184,11 @@ fn used(b: &[i64], names: &[u8], d: Dims, q: OrderStatus, who: Selection, name: 
     }
 }
 
-// The first refusal of a status, the customer and its last order.
-fn seen_of(b: &[i64], names: &[u8], q: OrderStatus, who: Selection, name: &[u8]) -> Seen
-    ensures { λ r. ⌜ r ≡ seenBy (statusFault (now (b .entry)) (now (names .entry)) q (whoOf who (now (name .entry)))) (statusCustomer (dims (now (b .entry))) (now (names .entry)) q (whoOf who (now (name .entry)))) (statusOrder (dims (now (b .entry))) (now (b .entry)) (now (names .entry)) q (whoOf who (now (name .entry)))) ⌝ }
+// The first refusal of what request, rows and names decide, the customer and its last order.
+fn seen_in(b: &[i64], names: &[u8], d: Dims, q: OrderStatus, who: Selection, name: &[u8]) -> Seen
+    requires { ⌜ Shaped d (now b) (length (now names)) ⌝ }
+    ensures { λ r. ⌜ r ≡ seenIn d (now (b .entry)) (now (names .entry)) q (whoOf who (now (name .entry))) ⌝ }
 {
-    if !layout::head_ok(b, names) {
-        return refused(2);
-    }
-    let d = layout::dims_of(b);
     let refusal = asked(d, q, who, name);
     if refusal.number == 0 {
         return used(b, names, d, q, who, name);
@@ -231,7 +203,8 @@ fn seen_of(b: &[i64], names: &[u8], q: OrderStatus, who: Selection, name: &[u8])
 // Customer, balance, and an order's number, date and carrier.
 fn figures_of(b: &[i64], d: Dims, q: OrderStatus, c: u64, o: u64) -> StatusFigures
     requires { ⌜ Booked d (now b) × (R (d .warehouses) (q .warehouse) × (R 10 (q .district) × (R (d .customers) c × (o ≤ d .orders)))) ⌝ }
-    ensures { λ r. ⌜ (r .customer ≡ c) × ((r .balance ≡ get (shapes d) (now (b .entry)) (balance (q .warehouse) (q .district) c)) × (pos (r .order) ∷ pos (r .date) ∷ pos (r .carrier) ∷ [] ≡ orderShown d (now (b .entry)) (q .warehouse) (q .district) o)) ⌝ }
+    ensures { λ r. ⌜ (r .customer ≡ c) × ((r .balance ≡ get (shapes d) (now (b .entry)) (balance (q .warehouse) (q .district) c))
+        × (pos (r .order) ∷ pos (r .date) ∷ pos (r .carrier) ∷ [] ≡ orderShown d (now (b .entry)) (q .warehouse) (q .district) o)) ⌝ }
 {
     let balance = rows::balance_of(b, d, q.warehouse, q.district, c);
     if o == 0 {
@@ -269,22 +242,31 @@ fn part_of(b: &[i64], d: Dims, w: u64, k: u64, o: u64) -> Part
     Part { from, count }
 }
 
+// A status that is refused shows nothing.
+fn turned_away(refusal: Refusal) -> Shown
+    ensures { λ r. ⌜ (statusSays (r .outcome) ≡ refused refusal) × (r .part ≡ record { from = 0; count = 0 }) ⌝ }
+{
+    let outcome = StatusOutcome::Refused(refusal);
+    let part = Part { from: 0, count: 0 };
+    Shown { outcome, part }
+}
+
 // Order-Status, by customer number or by last name: the outcome, and where the shown lines are in the book; the district's orders are scanned once.
 pub fn status_shown(b: &[i64], names: &[u8], q: OrderStatus, who: Selection, name: &[u8]) -> Shown
-    ensures { λ r. ⌜ (statusSays (r .outcome) ≡ statusAnswer (now (b .entry)) (now (names .entry)) q (whoOf who (now (name .entry)))) × ((r .part .from + r .part .count ≤ length (now (b .entry))) × (partOf (r .part) (now (b .entry)) ≡ statusLines (now (b .entry)) (now (names .entry)) q (whoOf who (now (name .entry))))) ⌝ }
+    ensures { λ r. ⌜ ShownCall (now (b .entry)) (now (names .entry)) q (whoOf who (now (name .entry))) r ⌝ }
 {
-    let seen = seen_of(b, names, q, who, name);
+    let Head::Book(d) = layout::head_of(b, names) else {
+        return turned_away(cells::refused(2));
+    };
+    let seen = seen_in(b, names, d, q, who, name);
     let refusal = seen.refusal;
     if refusal.number == 0 {
-        let d = layout::dims_of(b);
         let figures = figures_of(b, d, q, seen.customer, seen.order);
         let outcome = StatusOutcome::Committed(figures);
         let part = part_of(b, d, q.warehouse, q.district, seen.order);
         return Shown { outcome, part };
     }
-    let outcome = StatusOutcome::Refused(refusal);
-    let part = Part { from: 0, count: 0 };
-    Shown { outcome, part }
+    turned_away(refusal)
 }
 
 // The part of the lent book that a status shows.
@@ -307,7 +289,7 @@ pub fn order_status<'a>(
     who: Selection,
     name: &[u8],
 ) -> StatusAnswer<'a>
-    ensures { λ r. ⌜ (statusSays (r .outcome) ≡ statusAnswer (now (b .entry)) (now (names .entry)) q (whoOf who (now (name .entry)))) × (now (r .lines) ≡ statusLines (now (b .entry)) (now (names .entry)) q (whoOf who (now (name .entry)))) ⌝ }
+    ensures { λ r. ⌜ StatusCall (now (b .entry)) (now (names .entry)) q (whoOf who (now (name .entry))) (r .outcome) (now (r .lines)) ⌝ }
 {
     let s = status_shown(b, names, q, who, name);
     let lines = lines_in(b, s.part);

@@ -1,21 +1,23 @@
 -- What the code stores, having read everything before, is the model's list of changes done in turn; and the stages of a payment's tests.
 -- Assumes nothing.
-use mathlib.Core.Path.{_≡_, refl, sym, ap, _∙_}
+use mathlib.Core.Path.{_≡_, refl, sym, ap, _∙_, subst}
 use mathlib.Core.Bool.{Bool, true, false, not, _&&_}
-use mathlib.Core.List.{List, [], _∷_}
+use mathlib.Core.List.{List, [], _∷_, _++_}
 use mathlib.Core.Logic.{_≢_}
 use Prim.Native.Nat.{ℕ, suc, _+_, _≤_}
 use native.Mathlib.Numerals.{add-one}
 use native.Mathlib.Omega.{arith}
-use borrow.Author.Tests.{eq-eqb, ne-eqb, not-true, not-false}
+use borrow.Author.Tests.{eq-eqb, not-true, not-false}
 use lib.ListN.{length, drop, set, length-set}
 use lib.IntN.{ℤ, pos, _+ℤ_, _-ℤ_}
 use Rattle.model.specs.declared.Dims.{Dims}
 use Rattle.model.specs.declared.Payment.{Payment}
 use Rattle.model.specs.declared.Refusal.{Refusal}
 use Rattle.model.specs.Tests.{fault}
-use Rattle.model.specs.Head.{dims, headOk}
-use Rattle.model.specs.Answer.{committed, refused}
+use Rattle.model.specs.Head.{dims}
+use Rattle.model.specs.declared.PaymentAnswer.{PaymentAnswer}
+use Rattle.model.specs.Answer.{committed, refused, paymentSays}
+use Rattle.model.specs.Contracts.{PaymentCall}
 use Rattle.model.specs.Layout.{at, shapes, place, numbers, total}
 use Rattle.model.specs.Store.{get, num}
 use Rattle.model.specs.Names.{Who}
@@ -26,10 +28,13 @@ use Rattle.model.proofs.NumberLaws.{raised}
 use Rattle.model.proofs.Fields.{v7, row-end, head-place, place-col}
 use Rattle.model.proofs.Rewrite.{puts-row}
 use Rattle.model.proofs.InTurn.{in-turn}
-use Rattle.model.proofs.TestLaws.{and-left, and-right, fault-then, fault-first}
-use Rattle.model.proofs.PaymentFacts.{PayReady, pay-ready, pay-fine, pay-asked-numbered}
+use Rattle.model.proofs.TestLaws.{and-left, and-right}
+use Rattle.model.proofs.AnswerLaws.{none-fits, committed-is, refused-is, changed-is, kept-is}
+use Rattle.layout.specs.Heads.{Read}
+use Rattle.layout.proofs.Heads.{behind-head}
+use Rattle.model.proofs.PaymentFacts.{PayReady, pay-ready, pay-fine}
 use Rattle.payment.specs.declared.Payer.{Payer}
-use Rattle.payment.specs.Plan.{payerBy, nobody, Payable, planOf, storePlan, Small}
+use Rattle.payment.specs.Plan.{payerBy, nobody, payerIn, Payable, planOf, storePlan, Small}
 
 pub ready-payable : {d : Dims} {b : List ℤ} {names : List ℕ} {q : Payment} {who : Who} → PayReady d b names q who → Payable d b q (payer d names q who)
 ready-payable r =
@@ -110,61 +115,44 @@ module _ (b : List ℤ) (names : List ℕ) (q : Payment) (who : Who) where
   unfolding payUsed
   used-rest d {t} e s g = let h = sym e ∙ not-false t s in rw (and-left (warehouseUsed d b (q .warehouse)) (districtUsed d b (q .warehouse) (q .district)) h, and-right (warehouseUsed d b (q .warehouse)) (districtUsed d b (q .warehouse) (q .district)) h) g
 
-  pub head-answer : headOk b (length names) ≡ false → refused (record { number = 2; detail = 0 }) ≡ paymentAnswer b names q who
-  unfolding paymentAnswer paymentFault
-  head-answer e = rw e
+  -- ── a payment that is refused ──
+  pub turned-call : {r : Refusal} {a : PaymentAnswer} → r ≡ paymentFault b names q who → r .number ≢ 0 → paymentSays (a .outcome) ≡ refused r
+      → PaymentCall b names q who a b
+  unfolding paymentAnswer paymentBook
+  turned-call e n es =
+      record {
+        says = es ∙ refused-is e (pos (payer (dims b) names q who) ∷ paidBalance (dims b) b q (payer (dims b) names q who) ∷ []) n;
+        leaves = kept-is e (paymentCommit (dims b) b q (payer (dims b) names q who)) b n;
+      }
 
-  pub head-book : headOk b (length names) ≡ false → b ≡ paymentBook b names q who
-  unfolding paymentBook paymentFault
-  head-book e = rw e
+  -- ── what the refusal and the payer say of the call ──
+  module _ {d : Dims} {p : Payer} (v : Read b (length names) d) (e : p ≡ payerIn d b names q who) where
+    pub refusal-is : p .refusal ≡ paymentFault b names q who
+    unfolding paymentFault
+    refusal-is = behind-head b (length names) (λ x. payAsked x q who) (λ x. payUsed x b names q who) v (ap (λ (x : Payer). x .refusal) e)
 
-  asked-is : {d : Dims} → d ≡ dims b → headOk b (length names) ≡ true → fault (payAsked d q who) .number ≢ 0 → fault (payAsked d q who) ≡ paymentFault b names q who
-  unfolding paymentFault
-  asked-is {d} e h f = rw (h, ← e) (sym (fault-first (payAsked d q who) (payUsed d b names q who) f))
+    who-pays : p .refusal .number ≡ 0 → p .customer ≡ payer d names q who
+    who-pays z =
+        let f = fault (payAsked d q who ++ payUsed d b names q who) in
+        ap (λ (x : Payer). x .customer) e ∙ rw (eq-eqb (f .number) 0 (sym (ap (λ (x : Payer). x .refusal .number) e) ∙ z))
 
-  used-is : {d : Dims} → d ≡ dims b → headOk b (length names) ≡ true → fault (payAsked d q who) .number ≡ 0 → fault (payUsed d b names q who) ≡ paymentFault b names q who
-  unfolding paymentFault
-  used-is {d} e h f = rw (h, ← e) (sym (fault-then (payAsked d q who) (payUsed d b names q who) f (pay-asked-numbered d q who)))
+    pub pays : p .refusal .number ≡ 0 → Payable d b q (p .customer)
+    pays z =
+        subst (λ (x : Dims). Payable x b q (p .customer)) (sym (v .same))
+        (rw (who-pays z, v .same) (ready-payable (pay-ready b names q who (none-fits refusal-is z))))
 
-  pub asked-fault : {d : Dims} {f : Refusal} → d ≡ dims b → headOk b (length names) ≡ true → f ≡ fault (payAsked d q who) → f .number ≢ 0
-      → record { refusal = f; customer = 0 } ≡ payerBy (paymentFault b names q who) (payer (dims b) names q who)
-  asked-fault {d} {f} e h p n =
-      let g : f ≡ paymentFault b names q who = p ∙ asked-is e h (λ z. n (ap (λ (x : Refusal). x .number) p ∙ z)) in
-      rw (← g, ne-eqb (f .number) 0 n)
-
-  pub used-fault : {d : Dims} {p : Payer} → d ≡ dims b → headOk b (length names) ≡ true → fault (payAsked d q who) .number ≡ 0
-      → p ≡ payerBy (fault (payUsed d b names q who)) (payer d names q who) → p ≡ payerBy (paymentFault b names q who) (payer (dims b) names q who)
-  used-fault {d} e h f g =
-      g
-      ∙ ap (λ (r : Refusal). payerBy r (payer d names q who)) (used-is e h f)
-      ∙ ap (λ (x : Dims). payerBy (paymentFault b names q who) (payer x names q who)) e
-
-  -- ── what the refusal and the payer say of the answer and the book ──
-  module _ {p : Payer} (e : p ≡ payerBy (paymentFault b names q who) (payer (dims b) names q who)) where
-    none : p .refusal .number ≡ 0 → paymentFault b names q who .number ≡ 0
-    none z = sym (ap (λ (x : Payer). x .refusal .number) e) ∙ z
-
-    who-pays : p .refusal .number ≡ 0 → p .customer ≡ payer (dims b) names q who
-    who-pays z = ap (λ (x : Payer). x .customer) e ∙ rw (eq-eqb (paymentFault b names q who .number) 0 (none z))
-
-    pub pays : p .refusal .number ≡ 0 → Payable (dims b) b q (p .customer)
-    pays z = rw (who-pays z) (ready-payable (pay-ready b names q who (none z)))
-
-    pub paid-answer : p .refusal .number ≡ 0 → committed (pos (p .customer) ∷ paidBalance (dims b) b q (p .customer) ∷ []) ≡ paymentAnswer b names q who
-    unfolding paymentAnswer
-    paid-answer z = rw (who-pays z, eq-eqb (paymentFault b names q who .number) 0 (none z))
-
-    pub paid-book : p .refusal .number ≡ 0 → paymentCommit (dims b) b q (p .customer) ≡ paymentBook b names q who
-    unfolding paymentBook
-    paid-book z = rw (who-pays z, eq-eqb (paymentFault b names q who .number) 0 (none z))
-
-    some-fault : p .refusal .number ≢ 0 → paymentFault b names q who .number ≢ 0
-    some-fault n z = n (ap (λ (x : Payer). x .refusal .number) e ∙ z)
-
-    pub kept-answer : p .refusal .number ≢ 0 → refused (p .refusal) ≡ paymentAnswer b names q who
-    unfolding paymentAnswer
-    kept-answer n = rw (ne-eqb (paymentFault b names q who .number) 0 (some-fault n)) (ap (λ (x : Payer). refused (x .refusal)) e)
-
-    pub kept-book : p .refusal .number ≢ 0 → b ≡ paymentBook b names q who
-    unfolding paymentBook
-    kept-book n = rw (ne-eqb (paymentFault b names q who .number) 0 (some-fault n))
+    pub paid-call : {a : PaymentAnswer} {left : List ℤ} → p .refusal .number ≡ 0
+        → paymentSays (a .outcome) ≡ committed (pos (p .customer) ∷ paidBalance d b q (p .customer) ∷ []) → left ≡ paymentCommit d b q (p .customer)
+        → PaymentCall b names q who a left
+    unfolding paymentAnswer paymentBook
+    paid-call z es el =
+        let c : p .customer ≡ payer (dims b) names q who = who-pays z ∙ ap (λ (x : Dims). payer x names q who) (v .same) in
+        let c′ = payer (dims b) names q who in
+        record {
+          says =
+              es
+              ∙ ap (λ (i : ℕ). committed (pos i ∷ paidBalance d b q i ∷ [])) c
+              ∙ ap (λ (x : Dims). committed (pos c′ ∷ paidBalance x b q c′ ∷ [])) (v .same)
+              ∙ committed-is refusal-is (pos c′ ∷ paidBalance (dims b) b q c′ ∷ []) z;
+          leaves = el ∙ ap (paymentCommit d b q) c ∙ ap (λ (x : Dims). paymentCommit x b q c′) (v .same) ∙ changed-is refusal-is (paymentCommit (dims b) b q c′) b z;
+        }

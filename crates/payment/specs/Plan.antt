@@ -1,9 +1,9 @@
 -- What the code does between reading and answering. No rule of the book is here: the positions and the numbers are the model's.
 -- Assumes nothing.
 use mathlib.Core.Path.{_≡_}
-use mathlib.Core.List.{List}
+use mathlib.Core.List.{List, _++_}
 use Prim.Native.Nat.{ℕ, _+_, _≤_, _<_, _^_}
-use lib.ListN.{length, set}
+use lib.ListN.{length, drop, set}
 use lib.IntN.{ℤ, pos, _-ℤ_}
 use Rattle.model.specs.declared.Dims.{Dims}
 use Rattle.model.specs.declared.Payment.{Payment}
@@ -11,7 +11,9 @@ use Rattle.model.specs.declared.Refusal.{Refusal}
 use Rattle.model.specs.Layout.{shapes, place, numbers}
 use Rattle.model.specs.Store.{get, num}
 use Rattle.model.specs.Rows.{historyCount, warehouseYtd, districtYtd, balance, ytdPayment, paymentCnt, historyRow}
-use Rattle.model.specs.Payment.{historyNumbers}
+use Rattle.model.specs.Tests.{bare, fault}
+use Rattle.model.specs.Names.{Who}
+use Rattle.model.specs.Payment.{payAsked, payUsed, payer, historyNumbers}
 use Rattle.model.specs.Answer.{leftBy}
 use Rattle.model.specs.Claim.{R}
 use Rattle.model.proofs.Fields.{Dimensioned}
@@ -25,7 +27,14 @@ abbrev pub payerBy : Refusal → ℕ → Payer
 payerBy f c = record { refusal = f; customer = leftBy f c 0 }
 
 abbrev pub nobody : ℕ → Payer
-nobody n = record { refusal = record { number = n; detail = 0 }; customer = 0 }
+nobody n = record { refusal = bare n; customer = 0 }
+
+-- what the rows and names decide from test n on, and what the request decides before
+abbrev pub payerFrom : ℕ → Dims → List ℤ → List ℕ → Payment → Who → Payer
+payerFrom n d b names q who = payerBy (fault (drop n (payUsed d b names q who))) (payer d names q who)
+
+abbrev pub payerIn : Dims → List ℤ → List ℕ → Payment → Who → Payer
+payerIn d b names q who = payerBy (fault (payAsked d q who ++ payUsed d b names q who)) (payer d names q who)
 
 -- a payment by customer c that no refusal applies to
 pub record Payable (d : Dims) (b : List ℤ) (q : Payment) (c : ℕ) : Type 0 where

@@ -1,22 +1,20 @@
 ghost use mathlib.Core.Path.{_≡_};
-ghost use mathlib.Core.Bool.{true, _&&_};
-ghost use mathlib.Core.List.{[], _∷_};
+ghost use mathlib.Core.Bool.{_&&_};
 ghost use Prim.Native.Nat.{_+_, _≤_};
-ghost use lib.Dec.{leb};
 ghost use lib.ListN.{length, drop};
-ghost use Rattle.model.specs.Tests.{every, fault};
-ghost use Rattle.model.specs.Numbers.{maxDate};
-ghost use Rattle.model.specs.Head.{dims, headOk};
+ghost use Rattle.model.specs.Tests.{fault};
 ghost use Rattle.model.specs.Used.{warehouseUsed, districtUsed};
 ghost use Rattle.model.specs.Claim.{R};
 ghost use Rattle.model.specs.Names.{byNumber, byName, whoOf};
-ghost use Rattle.model.specs.Answer.{paymentSays};
-ghost use Rattle.model.specs.Payment.{payAsked, payUsed, paymentFault, payer, historyNumbers, paidBalance, paymentCommit, paymentAnswer, paymentBook};
+ghost use Rattle.model.specs.Answer.{refused, paymentSays};
+ghost use Rattle.model.specs.Contracts.{PaymentCall};
+ghost use Rattle.model.specs.Payment.{payAsked, payUsed, payer, historyNumbers, paidBalance, paymentCommit};
 ghost use Rattle.model.proofs.Fields.{Shaped};
 ghost use Rattle.model.proofs.PaymentFacts.{PayAsked};
 ghost use Rattle.model.proofs.Rewrite.{puts};
 ghost use Rattle.rows.specs.Book.{Booked};
-ghost use Rattle.payment.specs.Plan.{payerBy, nobody, Payable, planOf, Storable, Small, storePlan};
+ghost use Rattle.payment.specs.Plan.{payerBy, nobody, payerFrom, payerIn, Payable, planOf, Storable, Small, storePlan};
+use layout::Head;
 use model::Dims;
 use model::Found;
 use model::Payment;
@@ -48,82 +46,35 @@ pub struct Plan {
     pub count: u64,
 }
 
-// Both warehouses are ones of the book.
-fn warehouses_ok(d: Dims, q: Payment) -> bool
-    ensures { λ r. ⌜ r ≡ every (leb 1 (q .warehouse) ∷ leb (q .warehouse) (d .warehouses) ∷ leb 1 (q .custwarehouse) ∷ leb (q .custwarehouse) (d .warehouses) ∷ []) ⌝ }
-{
-    (1 <= q.warehouse)
-        & (q.warehouse <= d.warehouses)
-        & (1 <= q.custwarehouse)
-        & (q.custwarehouse <= d.warehouses)
-}
-
-// Both districts are ones of a warehouse.
-fn districts_ok(q: Payment) -> bool
-    ensures { λ r. ⌜ r ≡ every (leb 1 (q .district) ∷ leb (q .district) 10 ∷ leb 1 (q .custdistrict) ∷ leb (q .custdistrict) 10 ∷ []) ⌝ }
-{
-    (1 <= q.district) & (q.district <= 10) & (1 <= q.custdistrict) & (q.custdistrict <= 10)
-}
-
-// The date is in range.
-fn date_ok(q: Payment) -> bool
-    ensures { λ r. ⌜ r ≡ every (leb 1 (q .date) ∷ leb (q .date) maxDate ∷ []) ⌝ }
-{
-    (1 <= q.date) & (q.date <= 6342969600)
-}
-
-// The amount is in range.
-fn amount_ok(q: Payment) -> bool
-    ensures { λ r. ⌜ r ≡ every (leb 100 (q .amount) ∷ leb (q .amount) 500000 ∷ []) ⌝ }
-{
-    (100 <= q.amount) & (q.amount <= 500000)
-}
-
 // The first refusal that the request alone decides.
 fn asked(d: Dims, q: Payment, who: Selection, name: &[u8]) -> Refusal
     ensures { λ r. ⌜ r ≡ fault (payAsked d q (whoOf who (now (name .entry)))) ⌝ }
 {
-    if !warehouses_ok(d, q) {
-        return Refusal {
-            number: 4,
-            detail: 0,
-        };
+    let custwarehouse = cells::within(q.custwarehouse, 1, d.warehouses);
+    if !(cells::within(q.warehouse, 1, d.warehouses) & custwarehouse) {
+        return cells::refused(4);
     }
-    if !districts_ok(q) {
-        return Refusal {
-            number: 5,
-            detail: 0,
-        };
+    let custdistrict = cells::within(q.custdistrict, 1, 10);
+    if !(cells::within(q.district, 1, 10) & custdistrict) {
+        return cells::refused(5);
     }
     if !lookup::who_ok(d, who, name) {
-        return Refusal {
-            number: 6,
-            detail: 0,
-        };
+        return cells::refused(6);
     }
-    if !date_ok(q) {
-        return Refusal {
-            number: 7,
-            detail: 0,
-        };
+    if !cells::within(q.date, 1, 6342969600) {
+        return cells::refused(7);
     }
-    if !amount_ok(q) {
-        return Refusal {
-            number: 8,
-            detail: 0,
-        };
+    if !cells::within(q.amount, 100, 500000) {
+        return cells::refused(8);
     }
-    Refusal {
-        number: 0,
-        detail: 0,
-    }
+    cells::refused(0)
 }
 
 // Nobody pays.
-fn refused(number: u64) -> Payer
+fn nobody_pays(number: u64) -> Payer
     ensures { λ r. ⌜ r ≡ nobody number ⌝ }
 {
-    let refusal = Refusal { number, detail: 0 };
+    let refusal = cells::refused(number);
     Payer {
         refusal,
         customer: 0,
@@ -137,12 +88,9 @@ fn with_room(b: &[i64], names: &[u8], d: Dims, q: Payment, c: u64) -> Payer
 {
     let row = rows::history_count(b, d) + 1;
     if d.histories < row {
-        return refused(11);
+        return nobody_pays(11);
     }
-    let refusal = Refusal {
-        number: 0,
-        detail: 0,
-    };
+    let refusal = cells::refused(0);
     Payer {
         refusal,
         customer: c,
@@ -152,10 +100,10 @@ fn with_room(b: &[i64], names: &[u8], d: Dims, q: Payment, c: u64) -> Payer
 // What is decided after warehouse and district, of a customer given by number.
 fn by_number(b: &[i64], names: &[u8], d: Dims, q: Payment, c: u64) -> Payer
     requires { ⌜ Shaped d (now b) (length (now names)) × PayAsked d q (byNumber c) ⌝ }
-    ensures { λ r. ⌜ r ≡ payerBy (fault (drop 2 (payUsed d (now (b .entry)) (now (names .entry)) q (byNumber c)))) (payer d (now (names .entry)) q (byNumber c)) ⌝ }
+    ensures { λ r. ⌜ r ≡ payerFrom 2 d (now (b .entry)) (now (names .entry)) q (byNumber c) ⌝ }
 {
     if !rows::customer_used(b, d, q.custwarehouse, q.custdistrict, c) {
-        return refused(9);
+        return nobody_pays(9);
     }
     with_room(b, names, d, q, c)
 }
@@ -163,14 +111,14 @@ fn by_number(b: &[i64], names: &[u8], d: Dims, q: Payment, c: u64) -> Payer
 // The same of a customer given by last name.
 fn by_name(b: &[i64], names: &[u8], d: Dims, q: Payment, name: &[u8]) -> Payer
     requires { ⌜ Shaped d (now b) (length (now names)) × PayAsked d q (byName (now name)) ⌝ }
-    ensures { λ r. ⌜ r ≡ payerBy (fault (drop 2 (payUsed d (now (b .entry)) (now (names .entry)) q (byName (now (name .entry)))))) (payer d (now (names .entry)) q (byName (now (name .entry)))) ⌝ }
+    ensures { λ r. ⌜ r ≡ payerFrom 2 d (now (b .entry)) (now (names .entry)) q (byName (now (name .entry))) ⌝ }
 {
     if !lookup::named_used(b, names, d, q.custwarehouse, q.custdistrict) {
-        return refused(9);
+        return nobody_pays(9);
     }
     let found = lookup::find(names, d, q.custwarehouse, q.custdistrict, name);
     let Found::Customer(c) = found else {
-        return refused(10);
+        return nobody_pays(10);
     };
     with_room(b, names, d, q, c)
 }
@@ -188,10 +136,10 @@ fn terminal_used(b: &[i64], d: Dims, q: Payment) -> bool
 // The first refusal that the rows and names decide, and who pays.
 fn used(b: &[i64], names: &[u8], d: Dims, q: Payment, who: Selection, name: &[u8]) -> Payer
     requires { ⌜ Shaped d (now b) (length (now names)) × PayAsked d q (whoOf who (now name)) ⌝ }
-    ensures { λ r. ⌜ r ≡ payerBy (fault (payUsed d (now (b .entry)) (now (names .entry)) q (whoOf who (now (name .entry))))) (payer d (now (names .entry)) q (whoOf who (now (name .entry)))) ⌝ }
+    ensures { λ r. ⌜ r ≡ payerFrom 0 d (now (b .entry)) (now (names .entry)) q (whoOf who (now (name .entry))) ⌝ }
 {
     if !terminal_used(b, d, q) {
-        return refused(9);
+        return nobody_pays(9);
     }
     match who {
         Selection::Number(c) => by_number(b, names, d, q, c),
@@ -199,10 +147,10 @@ fn used(b: &[i64], names: &[u8], d: Dims, q: Payment, who: Selection, name: &[u8
     }
 }
 
-// The first refusal of a payment on a book whose head is in range, and who pays where there is none.
-fn payer_of(b: &[i64], names: &[u8], d: Dims, q: Payment, who: Selection, name: &[u8]) -> Payer
-    requires { ⌜ (d ≡ dims (now b)) × (headOk (now b) (length (now names)) ≡ true) ⌝ }
-    ensures { λ r. ⌜ r ≡ payerBy (paymentFault (now (b .entry)) (now (names .entry)) q (whoOf who (now (name .entry)))) (payer (dims (now (b .entry))) (now (names .entry)) q (whoOf who (now (name .entry)))) ⌝ }
+// The first refusal of what request, rows and names decide, and who pays where there is none.
+fn payer_in(b: &[i64], names: &[u8], d: Dims, q: Payment, who: Selection, name: &[u8]) -> Payer
+    requires { ⌜ Shaped d (now b) (length (now names)) ⌝ }
+    ensures { λ r. ⌜ r ≡ payerIn d (now (b .entry)) (now (names .entry)) q (whoOf who (now (name .entry))) ⌝ }
 {
     let refusal = asked(d, q, who, name);
     if refusal.number == 0 {
@@ -286,6 +234,14 @@ fn commit(b: &mut [i64], d: Dims, q: Payment, c: u64) -> i64
     p.newbalance
 }
 
+// A payment that is refused.
+fn turned_away(refusal: Refusal) -> PaymentAnswer
+    ensures { λ r. ⌜ paymentSays (r .outcome) ≡ refused refusal ⌝ }
+{
+    let outcome = PaymentOutcome::Refused(refusal);
+    PaymentAnswer { outcome }
+}
+
 // Payment, by customer number or by last name.
 pub fn payment(
     b: &mut [i64],
@@ -294,18 +250,12 @@ pub fn payment(
     who: Selection,
     name: &[u8],
 ) -> PaymentAnswer
-    ensures { λ r. ⌜ (paymentSays (r .outcome) ≡ paymentAnswer (now (b .entry)) (now (names .entry)) q (whoOf who (now (name .entry)))) × (now (b .exit) ≡ paymentBook (now (b .entry)) (now (names .entry)) q (whoOf who (now (name .entry)))) ⌝ }
+    ensures { λ r. ⌜ PaymentCall (now (b .entry)) (now (names .entry)) q (whoOf who (now (name .entry))) r (now (b .exit)) ⌝ }
 {
-    if !layout::head_ok(b, names) {
-        let refusal = Refusal {
-            number: 2,
-            detail: 0,
-        };
-        let outcome = PaymentOutcome::Refused(refusal);
-        return PaymentAnswer { outcome };
-    }
-    let d = layout::dims_of(b);
-    let payer = payer_of(b, names, d, q, who, name);
+    let Head::Book(d) = layout::head_of(b, names) else {
+        return turned_away(cells::refused(2));
+    };
+    let payer = payer_in(b, names, d, q, who, name);
     let refusal = payer.refusal;
     if refusal.number == 0 {
         let balance = commit(b, d, q, payer.customer);
@@ -315,6 +265,5 @@ pub fn payment(
         });
         return PaymentAnswer { outcome };
     }
-    let outcome = PaymentOutcome::Refused(refusal);
-    PaymentAnswer { outcome }
+    turned_away(refusal)
 }

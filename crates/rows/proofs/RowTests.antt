@@ -7,12 +7,12 @@ use Prim.Native.Nat.{ℕ, _+_, _*_, _≤_, _<_}
 use native.Mathlib.Omega.{arith}
 use lib.Dec.{leb}
 use lib.IntN.{ℤ, pos}
-use lib.ListN.{getD}
+use lib.ListN.{length, getD}
 use borrow.Author.Tests.{leb-true, lt-leb, le-leb, not-true, not-false}
 use Rattle.model.specs.declared.Dims.{Dims}
 use Rattle.model.specs.Tests.{every}
 use Rattle.model.specs.Numbers.{nat, cell}
-use Rattle.model.specs.Layout.{at, place, shapes}
+use Rattle.model.specs.Layout.{at, place, shapes, numbers, total}
 use Rattle.model.specs.Store.{get, num, from}
 use Rattle.model.specs.Rows.{warehouseRow, warehouseTests, districtRow, districtTests, customerRow, customerTests, price, itemTests, stockRow, stockTests, slot, orderRow, orderTests, line, lineTests, orderOk}
 use Rattle.model.specs.Head.{dims, headOk}
@@ -23,6 +23,10 @@ use Rattle.rows.specs.Book.{Booked, linesOk}
 
 pub shaped-booked : {d : Dims} {b : List ℤ} {n : ℕ} → Shaped d b n → Booked d b
 shaped-booked s = record { dimsd = s .dimsd; long = s .long }
+
+pub booked-long : {d : Dims} {b : List ℤ} → Booked d b → length b ≡ total (shapes d)
+unfolding numbers
+booked-long s = s .long
 
 -- the book whose head a call has found in range, by the dimensions that it has read
 pub head-booked : (b : List ℤ) (n : ℕ) {d : Dims} → headOk b n ≡ true → d ≡ dims b → Booked d b

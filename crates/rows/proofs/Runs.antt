@@ -7,18 +7,21 @@ use Prim.Native.Nat.{ℕ, _+_, _-_, _*_, _≤_, _<_}
 use native.Mathlib.Omega.{arith}
 use lib.Dec.{leb}
 use lib.IntN.{ℤ}
+use lib.ListN.{length}
 use borrow.Author.Tests.{leb-false}
 use Rattle.model.specs.declared.Dims.{Dims}
 use Rattle.model.specs.Tests.{every, allTo}
 use Rattle.model.specs.Layout.{place, inside, shapes, numbers}
 use Rattle.model.specs.Store.{num, from}
-use Rattle.model.specs.Rows.{nextOrder, customerRow, customerTests, price, stockRow, stockTests, slot, orderRow, orderOk}
+use Rattle.model.specs.Rows.{nextOrder, customerRow, customerTests, price, stockRow, stockTests, orderOk}
 use Rattle.model.specs.Used.{customerUsed, stockUsed, orderUsed, ordersUsed}
 use Rattle.model.specs.StockLevel.{windowFirst, windowCount, windowUsed}
 use Rattle.model.specs.Claim.{R}
 use Rattle.model.proofs.TestLaws.{all-same}
-use Rattle.layout.proofs.Bounds.{customer-is, item-is, stock-is, order-is}
-use Rattle.rows.specs.Book.{ordersFrom}
+use Rattle.layout.specs.declared.Run.{Run}
+use Rattle.layout.specs.Runs.{rowIn, RunOf, RowsIn}
+use Rattle.layout.proofs.Bounds.{customer-is, item-is, stock-is}
+use Rattle.rows.specs.Book.{Booked, okAt, ordersFrom}
 use Rattle.rows.proofs.RowTests.{customer-test, stock-test, order-test}
 
 module _ (d : Dims) where
@@ -37,12 +40,6 @@ module _ (d : Dims) where
   unfolding place inside
   stock-run w i r h = (omega arith, stock-is d w (i + 1) r (record { lo = omega arith; hi = omega arith }) .1)
 
-  -- orders of following numbers are in following slots
-  pub order-run : (w k o i : ℕ) → R (d .warehouses) w → R 10 k → 1 ≤ o → o + i ≤ d .orders
-      → (place (shapes d) (orderRow d w k o) + 81 * i ≡ place (shapes d) (orderRow d w k (o + i))) × (place (shapes d) (orderRow d w k (o + i)) + 81 ≤ numbers d)
-  unfolding place inside slot
-  order-run w k o i r s l h = (omega arith, order-is d w k (o + i) r s (record { lo = omega arith; hi = omega arith }) .1)
-
 -- ── a test in a run ──
 module _ (d : Dims) (b : List ℤ) {p : ℕ} {t : Bool} where
   pub customer-in-run : (w k i : ℕ) → R (d .warehouses) w → R 10 k → i < d .customers → p ≡ place (shapes d) (customerRow w k 1)
@@ -53,11 +50,25 @@ module _ (d : Dims) (b : List ℤ) {p : ℕ} {t : Bool} where
       → t ≡ every (stockTests (from b (p + 4 * i))) → t ≡ stockUsed d b w (i + 1)
   stock-in-run w i r h e f = stock-test d b w (i + 1) (ap (λ (j : ℕ). j + 4 * i) e ∙ stock-run d w i r h .0) f
 
-  pub order-in-run : (w k o i : ℕ) → R (d .warehouses) w → R 10 k → 1 ≤ o → o + i ≤ d .orders → p ≡ place (shapes d) (orderRow d w k o)
-      → t ≡ orderOk d (from b (p + 81 * i)) → t ≡ orderUsed d b w k (o + (i + 1 - 1))
-  order-in-run w k o i r s l h e f =
-      let q : o + i ≡ o + (i + 1 - 1) = omega arith in
-      order-test d b w k (o + i) (ap (λ (j : ℕ). j + 81 * i) e ∙ order-run d w k o i r s l h .0) f ∙ ap (orderUsed d b w k) q
+-- ── the orders of a run ──
+-- the row that the code judges in turn i, from 0
+pub row-test : (d : Dims) (b : List ℤ) (run : Run) (i : ℕ) {p : ℕ} {t : Bool} → p ≡ rowIn run i → t ≡ orderOk d (from b p) → t ≡ okAt d b run (i + 1)
+unfolding okAt
+row-test d b run i e f = let q : i + 1 - 1 ≡ i = omega arith in rw (q, ← e) f
+
+module _ (d : Dims) (b : List ℤ) (w k first n : ℕ) {run : Run} (r : RunOf d w k first n run) where
+  pub rows-in : Booked d b → RowsIn run (length b)
+  rows-in v i h = omega (arith, r .ends i (omega (arith, h, r .count)), v .long)
+
+  run-test : (j : ℕ) → R n j → okAt d b run j ≡ orderUsed d b w k (first + (j - 1))
+  unfolding okAt
+  run-test j t = order-test d b w k (first + (j - 1)) (r .each (j - 1) (omega (arith, t .lo, t .hi))) refl
+
+  pub run-used : {t : Bool} → t ≡ allTo (run .count) (okAt d b run) → t ≡ ordersFrom d b w k first n
+  run-used e =
+      e
+      ∙ ap (λ (m : ℕ). allTo m (okAt d b run)) (r .count)
+      ∙ all-same (okAt d b run) (λ j. orderUsed d b w k (first + (j - 1))) n run-test
 
 -- ── orders before next, and those of the window ──
 module _ (d : Dims) (b : List ℤ) (w k : ℕ) where

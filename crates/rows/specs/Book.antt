@@ -9,9 +9,12 @@ use lib.IntN.{ℤ}
 use Rattle.model.specs.declared.Dims.{Dims}
 use Rattle.model.specs.Tests.{every, allTo}
 use Rattle.model.specs.Layout.{numbers}
-use Rattle.model.specs.Rows.{line, lineTests}
+use Rattle.model.specs.Rows.{line, lineTests, orderOk}
+use Rattle.model.specs.Store.{from}
 use Rattle.model.specs.Used.{orderUsed}
 use Rattle.model.proofs.Fields.{Dimensioned}
+use Rattle.layout.specs.declared.Run.{Run}
+use Rattle.layout.specs.Runs.{rowIn}
 
 pub record Booked (d : Dims) (b : List ℤ) : Type 0 where
   pub dimsd : Dimensioned d
@@ -20,6 +23,10 @@ pub record Booked (d : Dims) (b : List ℤ) : Type 0 where
 -- the first n lines of an order's row are in range
 abbrev pub linesOk : Dims → (ℕ → ℤ) → ℕ → Bool
 linesOk d r n = allTo n (λ j. every (lineTests d (line r j)))
+
+-- row j, from 1, of a run of orders' rows is in range
+unfoldable pub okAt : Dims → List ℤ → Run → ℕ → Bool
+okAt d b run j = orderOk d (from b (rowIn run (j - 1)))
 
 -- the n orders of a district from a number on are in range
 abbrev pub ordersFrom : Dims → List ℤ → ℕ → ℕ → ℕ → ℕ → Bool

@@ -23,8 +23,10 @@ use Rattle.model.specs.Claim.{R}
 use Rattle.model.proofs.Fields.{from-cell, row-read}
 use Rattle.model.proofs.RowFacts.{AllIn, OrderIn}
 use Rattle.model.proofs.StockLevelFacts.{window}
-use Rattle.rows.proofs.Runs.{order-run, stock-run, First, window-first}
-use Rattle.stock_level.specs.Notes.{member, noted, noteAll, lowAt, itemIn, itemsFrom, ItemReads, OrderReads, Ready}
+use Rattle.layout.specs.declared.Run.{Run}
+use Rattle.layout.specs.Runs.{rowIn, RunOf}
+use Rattle.rows.proofs.Runs.{stock-run, First, window-first}
+use Rattle.stock_level.specs.Notes.{member, noted, noteAll, lowAt, itemIn, itemsIn, ItemReads, OrderReads, Ready}
 use Rattle.stock_level.proofs.Lists.{note-append, note-up, note-distinct, in-append, in-up, in-distinct, keeping-alike}
 
 -- ── the search in the list ──
@@ -68,16 +70,17 @@ pub lines-all : (b : List ℤ) (p n : ℕ) → n ≡ nat (from b p 3) → upTo n
 unfolding lineItems
 lines-all b p n e = ap (λ (m : ℕ). upTo m (itemIn b p)) e
 
-pub window-turn : (b : List ℤ) (stock threshold window i : ℕ) {l : List ℕ} (now : List ℕ)
-    → now ≡ noteAll (lowAt b stock threshold) [] (itemsFrom b window i)
-    → l ≡ noteAll (lowAt b stock threshold) now (lineItems (from b (window + 81 * i)))
-    → l ≡ noteAll (lowAt b stock threshold) [] (itemsFrom b window (i + 1))
-unfolding itemsFrom
-window-turn b stock threshold window i now e el =
+pub run-turn : (b : List ℤ) (stock threshold : ℕ) (run : Run) (i : ℕ) {l : List ℕ} {p : ℕ} (now : List ℕ)
+    → now ≡ noteAll (lowAt b stock threshold) [] (itemsIn b run i) → p ≡ rowIn run i
+    → l ≡ noteAll (lowAt b stock threshold) now (lineItems (from b p))
+    → l ≡ noteAll (lowAt b stock threshold) [] (itemsIn b run (i + 1))
+unfolding itemsIn
+run-turn b stock threshold run i {l} {p} now e ep el =
     el
-    ∙ ap (λ (s : List ℕ). noteAll (lowAt b stock threshold) s (lineItems (from b (window + 81 * i)))) e
-    ∙ sym (note-append (lowAt b stock threshold) [] (itemsFrom b window i) (lineItems (from b (window + 81 * i))))
-    ∙ ap (λ (n : ℕ). noteAll (lowAt b stock threshold) [] (itemsFrom b window n)) (sym (add-one i))
+    ∙ ap (λ (s : List ℕ). noteAll (lowAt b stock threshold) s (lineItems (from b p))) e
+    ∙ ap (λ (j : ℕ). noteAll (lowAt b stock threshold) (noteAll (lowAt b stock threshold) [] (itemsIn b run i)) (lineItems (from b j))) ep
+    ∙ sym (note-append (lowAt b stock threshold) [] (itemsIn b run i) (lineItems (from b (rowIn run i))))
+    ∙ ap (λ (n : ℕ). noteAll (lowAt b stock threshold) [] (itemsIn b run n)) (sym (add-one i))
 
 -- ── the count ──
 module _ (d : Dims) (b : List ℤ) (q : StockLevel) (v : Ready d b q) (next first : ℕ)
@@ -98,60 +101,56 @@ module _ (d : Dims) (b : List ℤ) (q : StockLevel) (v : Ready d b q) (next firs
   unfolding windowCount
   few = let x = window next (next-in .lo) in omega (arith, x .few, ef)
 
-  module _ (start stock : ℕ) (ew : start ≡ place (shapes d) (orderRow d (q .warehouse) (q .district) first)) (es : stock ≡ place (shapes d) (stockRow (q .warehouse) 1)) where
+  module _ {run : Run} (r : RunOf d (q .warehouse) (q .district) first (next - first) run) (stock : ℕ) (es : stock ≡ place (shapes d) (stockRow (q .warehouse) 1)) where
     -- order i, from 0, of the window
-    at-order : (i : ℕ) → i < next - first → (start + 81 * i ≡ place (shapes d) (orderRow d w k (first + i))) × (place (shapes d) (orderRow d w k (first + i)) + 81 ≤ numbers d)
-    at-order i h =
-        let e = order-run d w k first i (v .asked .w) (v .asked .k) (first-in .low) (omega (arith, next-in .hi)) in
-        (ap (λ (j : ℕ). j + 81 * i) ew ∙ e .0, e .1)
-
-    order-is : (i : ℕ) → i < next - first → from b (start + 81 * i) ≡ rowOf (shapes d) b (orderRow d w k (first + i))
-    order-is i h = ap (from b) (at-order i h .0) ∙ row-read (shapes d) b 6 w k (slot d (first + i))
+    order-is : (i : ℕ) → i < next - first → from b (rowIn run i) ≡ rowOf (shapes d) b (orderRow d w k (first + i))
+    order-is i h = ap (from b) (r .each i h) ∙ row-read (shapes d) b 6 w k (slot d (first + i))
 
     order-in : (i : ℕ) → i < next - first → OrderIn d b w k (first + i)
     order-in i h = v .used .orders (first + i) (omega (arith, ef, en, ap windowFirst en)) (omega (arith, en))
 
     item-in : (i j : ℕ) → i < next - first → R (nat (rowOf (shapes d) b (orderRow d w k (first + i)) 3)) j → R (d .items) (nat (line (rowOf (shapes d) b (orderRow d w k (first + i))) j 0))
-    item-in i j h r = let l = order-in i h .lines j r in record { lo = l .item-low; hi = l .item-high }
+    item-in i j h s = let l = order-in i h .lines j s in record { lo = l .item-low; hi = l .item-high }
 
     -- the stock row of an item
     at-stock : (x : ℕ) → R (d .items) x → (stock + 4 * (x - 1) ≡ place (shapes d) (onHand w x)) × (stock + 4 * x ≤ length b)
-    at-stock x r =
+    at-stock x s =
         let e = stock-run d w (x - 1) (v .asked .w) (omega arith) in
         let f : x - 1 + 1 ≡ x = omega arith in
         let g : place (shapes d) (stockRow w 1) + 4 * (x - 1) ≡ place (shapes d) (stockRow w x) = e .0 ∙ ap (λ (i : ℕ). place (shapes d) (stockRow w i)) f in
         let m : place (shapes d) (stockRow w x) + 4 ≤ numbers d = subst (λ (i : ℕ). place (shapes d) (stockRow w i) + 4 ≤ numbers d) f (e .1) in
-        (ap (λ (i : ℕ). i + 4 * (x - 1)) es ∙ g, omega (arith, g, m, es, r, v .booked .long))
+        (ap (λ (i : ℕ). i + 4 * (x - 1)) es ∙ g, omega (arith, g, m, es, s, v .booked .long))
 
-    pub reads : (i : ℕ) → i < next - first → OrderReads b stock (start + 81 * i)
-    reads i h =
-        let r = rowOf (shapes d) b (orderRow d w k (first + i)) in
-        let t : (nat (r 3) ≤ 15) × ((j : ℕ) → R (nat (r 3)) j → ItemReads b stock (nat (line r j 0))) =
-        (order-in i h .count-high, λ j s. record { low = item-in i j h s .lo; high = at-stock (nat (line r j 0)) (item-in i j h s) .1 }) in
+    pub reads : (i : ℕ) → i < run .count → OrderReads b stock (rowIn run i)
+    reads i c =
+        let h : i < next - first = omega (arith, c, r .count) in
+        let o = rowOf (shapes d) b (orderRow d w k (first + i)) in
+        let t : (nat (o 3) ≤ 15) × ((j : ℕ) → R (nat (o 3)) j → ItemReads b stock (nat (line o j 0))) =
+        (order-in i h .count-high, λ j s. record { low = item-in i j h s .lo; high = at-stock (nat (line o j 0)) (item-in i j h s) .1 }) in
         let u = subst (λ (f : ℕ → ℤ). (nat (f 3) ≤ 15) × ((j : ℕ) → R (nat (f 3)) j → ItemReads b stock (nat (line f j 0)))) (sym (order-is i h)) t in
-        record { ends = omega (arith, at-order i h, v .booked .long); lines = u .0; items = u .1 }
+        record { ends = omega (arith, r .ends i h, v .booked .long); lines = u .0; items = u .1 }
 
-    items-are : (n : ℕ) → n ≤ next - first → itemsFrom b start n ≡ windowItems d b w k first n
-    unfolding itemsFrom windowItems
+    items-are : (n : ℕ) → n ≤ next - first → itemsIn b run n ≡ windowItems d b w k first n
+    unfolding itemsIn windowItems
     items-are zero h = refl
     items-are (suc n) h =
-        ap (λ (l : List ℕ). l ++ lineItems (from b (start + 81 * n))) (items-are n (omega arith))
-        ∙ ap (λ (r : ℕ → ℤ). windowItems d b w k first n ++ lineItems r) (order-is n (omega arith))
+        ap (λ (l : List ℕ). l ++ lineItems (from b (rowIn run n))) (items-are n (omega arith))
+        ∙ ap (λ (o : ℕ → ℤ). windowItems d b w k first n ++ lineItems o) (order-is n (omega arith))
 
     low-is : (threshold x : ℕ) → R (d .items) x → lowAt b stock threshold x ≡ isLow d b w threshold x
     unfolding lowAt isLow cell get
-    low-is threshold x r = ap (λ (i : ℕ). ltb (nat (getD b i (pos 0))) threshold) (at-stock x r .0)
+    low-is threshold x s = ap (λ (i : ℕ). ltb (nat (getD b i (pos 0))) threshold) (at-stock x s .0)
 
     lows : (threshold n : ℕ) → n ≤ next - first → AllIn (λ x. lowAt b stock threshold x ≡ isLow d b w threshold x) (windowItems d b w k first n)
     unfolding windowItems lineItems
     lows threshold zero h = tt
     lows threshold (suc n) h =
-        let r = rowOf (shapes d) b (orderRow d w k (first + n)) in
-        in-append (λ x. lowAt b stock threshold x ≡ isLow d b w threshold x) (windowItems d b w k first n) (upTo (nat (r 3)) (λ j. nat (line r j 0)))
+        let o = rowOf (shapes d) b (orderRow d w k (first + n)) in
+        in-append (λ x. lowAt b stock threshold x ≡ isLow d b w threshold x) (windowItems d b w k first n) (upTo (nat (o 3)) (λ j. nat (line o j 0)))
         (lows threshold n (omega arith))
-        (in-up (λ x. lowAt b stock threshold x ≡ isLow d b w threshold x) (nat (r 3)) (λ j. nat (line r j 0)) (λ j s. low-is threshold (nat (line r j 0)) (item-in n j (omega arith) s)))
+        (in-up (λ x. lowAt b stock threshold x ≡ isLow d b w threshold x) (nat (o 3)) (λ j. nat (line o j 0)) (λ j s. low-is threshold (nat (line o j 0)) (item-in n j (omega arith) s)))
 
-    pub count-is : (l : List ℕ) (n : ℕ) → n ≤ length l → take n l ≡ noteAll (lowAt b stock (q .threshold)) [] (itemsFrom b start (next - first)) → n ≡ lowItems d b q
+    pub count-is : (l : List ℕ) (n : ℕ) → n ≤ length l → take n l ≡ noteAll (lowAt b stock (q .threshold)) [] (itemsIn b run (run .count)) → n ≡ lowItems d b q
     unfolding lowItems windowCount
     count-is l n h e =
         let low = lowAt b stock (q .threshold) in
@@ -160,7 +159,8 @@ module _ (d : Dims) (b : List ℤ) (q : StockLevel) (v : Ready d b q) (next firs
         sym (length-take-le n l h)
         ∙ ap length
         (e
-        ∙ note-distinct low (itemsFrom b start m)
+        ∙ ap (λ (i : ℕ). noteAll low [] (itemsIn b run i)) (r .count)
+        ∙ note-distinct low (itemsIn b run m)
         ∙ ap (λ (xs : List ℕ). keeping low (distinct xs)) (items-are m (omega arith))
         ∙ keeping-alike low (isLow d b w (q .threshold)) (distinct (windowItems d b w k first m)) (in-distinct (λ x. low x ≡ isLow d b w (q .threshold) x) (windowItems d b w k first m) p)
         ∙ ap (λ (i : ℕ). keeping (isLow d b w (q .threshold)) (distinct (windowItems d b w k i (next - i)))) ef

@@ -14,6 +14,8 @@ use Rattle.model.specs.Rows.{line}
 use Rattle.model.specs.StockLevel.{lineItems}
 use Rattle.model.specs.Claim.{R}
 use Rattle.model.proofs.StockLevelFacts.{LevelAsked, LevelUsed}
+use Rattle.layout.specs.declared.Run.{Run}
+use Rattle.layout.specs.Runs.{rowIn}
 use Rattle.rows.specs.Book.{Booked}
 
 abbrev pub member : ℕ → List ℕ → Bool
@@ -35,10 +37,10 @@ lowAt b stock threshold i = ltb (cell b (stock + 4 * (i - 1))) threshold
 abbrev pub itemIn : List ℤ → ℕ → ℕ → ℕ
 itemIn b p j = nat (line (from b p) j 0)
 
--- the items of n orders, the first of which is at `window`
-unfoldable pub itemsFrom : List ℤ → ℕ → ℕ → List ℕ
-itemsFrom b window zero = []
-itemsFrom b window (suc n) = itemsFrom b window n ++ lineItems (from b (window + 81 * n))
+-- the items of the first n orders of a run
+unfoldable pub itemsIn : List ℤ → Run → ℕ → List ℕ
+itemsIn b run zero = []
+itemsIn b run (suc n) = itemsIn b run n ++ lineItems (from b (rowIn run n))
 
 -- the stock row of item x is in the book
 pub record ItemReads (b : List ℤ) (stock x : ℕ) : Type 0 where

@@ -1,15 +1,18 @@
 ghost use mathlib.Core.Path.{_≡_};
-ghost use mathlib.Core.List.{[], _∷_};
+ghost use mathlib.Core.List.{[], _++_};
 ghost use Prim.Native.Nat.{ℕ, _+_, _*_, _≤_, _<_};
-ghost use lib.Dec.{leb};
 ghost use lib.ListN.{length, take};
-ghost use Rattle.model.specs.Tests.{every, fault};
+ghost use Rattle.model.specs.Tests.{fault};
 ghost use Rattle.model.specs.Store.{from};
-ghost use Rattle.model.specs.Answer.{stockLevelSays};
-ghost use Rattle.model.specs.StockLevel.{levelAsked, levelUsed, stockLevelFault, lineItems, lowItems, stockLevelAnswer};
+ghost use Rattle.model.specs.Answer.{refused, stockLevelSays};
+ghost use Rattle.model.specs.StockLevel.{levelAsked, levelUsed, lineItems, lowItems};
 ghost use Rattle.model.specs.Claim.{R};
+ghost use Rattle.model.specs.Contracts.{StockLevelCall};
+ghost use Rattle.layout.specs.Runs.{rowIn};
 ghost use Rattle.rows.specs.Book.{Booked};
-ghost use Rattle.stock_level.specs.Notes.{member, noted, noteAll, lowAt, itemsFrom, ItemReads, OrderReads, Ready};
+ghost use Rattle.stock_level.specs.Notes.{member, noted, noteAll, lowAt, itemsIn, ItemReads, OrderReads, Ready};
+use layout::Head;
+use layout::Run;
 use model::Dims;
 use model::Refusal;
 use model::StockLevel;
@@ -17,39 +20,20 @@ use model::StockLevelAnswer;
 use model::StockLevelFigures;
 use model::StockLevelOutcome;
 
-// A number is one of low, .., top.
-fn within(x: u64, low: u64, top: u64) -> bool
-    ensures { λ r. ⌜ r ≡ every (leb low x ∷ leb x top ∷ []) ⌝ }
-{
-    (low <= x) & (x <= top)
-}
-
 // 4, 5, 8: what the request decides.
 fn asked(d: Dims, q: StockLevel) -> Refusal
     ensures { λ r. ⌜ r ≡ fault (levelAsked d q) ⌝ }
 {
-    if !within(q.warehouse, 1, d.warehouses) {
-        return Refusal {
-            number: 4,
-            detail: 0,
-        };
+    if !cells::within(q.warehouse, 1, d.warehouses) {
+        return cells::refused(4);
     }
-    if !within(q.district, 1, 10) {
-        return Refusal {
-            number: 5,
-            detail: 0,
-        };
+    if !cells::within(q.district, 1, 10) {
+        return cells::refused(5);
     }
-    if !within(q.threshold, 10, 20) {
-        return Refusal {
-            number: 8,
-            detail: 0,
-        };
+    if !cells::within(q.threshold, 10, 20) {
+        return cells::refused(8);
     }
-    Refusal {
-        number: 0,
-        detail: 0,
-    }
+    cells::refused(0)
 }
 
 // 9: what the rows decide.
@@ -58,45 +42,27 @@ fn used(b: &[i64], d: Dims, q: StockLevel) -> Refusal
     ensures { λ r. ⌜ r ≡ fault (levelUsed d (now (b .entry)) q) ⌝ }
 {
     if !rows::district_used(b, d, q.warehouse, q.district) {
-        return Refusal {
-            number: 9,
-            detail: 0,
-        };
+        return cells::refused(9);
     }
     if !rows::window_used(b, d, q.warehouse, q.district) {
-        return Refusal {
-            number: 9,
-            detail: 0,
-        };
+        return cells::refused(9);
     }
     if !rows::stocks_used(b, d, q.warehouse) {
-        return Refusal {
-            number: 9,
-            detail: 0,
-        };
+        return cells::refused(9);
     }
-    Refusal {
-        number: 0,
-        detail: 0,
-    }
+    cells::refused(0)
 }
 
-// The first refusal that fits; number 0 where none does.
-fn level_fault(b: &[i64], names: &[u8], q: StockLevel) -> Refusal
-    ensures { λ r. ⌜ r ≡ stockLevelFault (now (b .entry)) (now (names .entry)) q ⌝ }
+// The first refusal of what request and rows decide; number 0 where there is none.
+fn fault_in(b: &[i64], d: Dims, q: StockLevel) -> Refusal
+    requires { ⌜ Booked d (now b) ⌝ }
+    ensures { λ r. ⌜ r ≡ fault (levelAsked d q ++ levelUsed d (now (b .entry)) q) ⌝ }
 {
-    if layout::head_ok(b, names) {
-        let d = layout::dims_of(b);
-        let first = asked(d, q);
-        if first.number == 0 {
-            return used(b, d, q);
-        }
-        return first;
+    let first = asked(d, q);
+    if first.number == 0 {
+        return used(b, d, q);
     }
-    Refusal {
-        number: 2,
-        detail: 0,
-    }
+    first
 }
 
 // x is among the first n of a list.
@@ -145,22 +111,18 @@ fn note_order(b: &[i64], stock: u64, threshold: u64, list: &mut [u64], n: u64, p
     k
 }
 
-// The items of the orders of a window noted, the first of which is at `window`.
-fn note_window(
-    b: &[i64],
-    stock: u64,
-    threshold: u64,
-    list: &mut [u64],
-    window: u64,
-    count: u64,
-) -> u64
-    requires { ⌜ ((i : ℕ) → i < count → OrderReads (now b) stock (window + 81 * i)) × (15 * count ≤ length (now list)) ⌝ }
-    ensures { λ r. ⌜ (r ≤ 15 * count) × (take r (now (list .exit)) ≡ noteAll (lowAt (now (b .entry)) stock threshold) [] (itemsFrom (now (b .entry)) window count)) ⌝ }
+// The items of the orders of a run noted.
+fn note_run(b: &[i64], stock: u64, threshold: u64, list: &mut [u64], run: Run) -> u64
+    requires { ⌜ ((i : ℕ) → i < run .count → OrderReads (now b) stock (rowIn run i)) × (15 * run .count ≤ length (now list)) ⌝ }
+    ensures { λ r. ⌜ (r ≤ 15 * run .count)
+        × (take r (now (list .exit)) ≡ noteAll (lowAt (now (b .entry)) stock threshold) [] (itemsIn (now (b .entry)) run (run .count))) ⌝ }
 {
+    let n = run.count;
     let mut k = 0;
     let mut i = 0;
-    while i < count {
-        k = note_order(b, stock, threshold, list, k, window + 81 * i);
+    while i < n {
+        let p = layout::order_in(run, i);
+        k = note_order(b, stock, threshold, list, k, p);
         i += 1;
     }
     k
@@ -174,23 +136,32 @@ fn low_items(b: &[i64], d: Dims, q: StockLevel) -> u64
     let next = rows::next_order(b, d, q.warehouse, q.district);
     let first = rows::window_first(next);
     let count = next - first;
-    let window = layout::order_at(d, q.warehouse, q.district, first);
+    let window = layout::orders_run(d, q.warehouse, q.district, first, count);
     let stock = layout::stock_at(d, q.warehouse, 1);
     let mut list = [0u64; 300];
-    note_window(b, stock, q.threshold, &mut list, window, count)
+    note_run(b, stock, q.threshold, &mut list, window)
+}
+
+// A Stock-Level that is refused.
+fn turned_away(refusal: Refusal) -> StockLevelAnswer
+    ensures { λ r. ⌜ stockLevelSays (r .outcome) ≡ refused refusal ⌝ }
+{
+    let outcome = StockLevelOutcome::Refused(refusal);
+    StockLevelAnswer { outcome }
 }
 
 // Stock-Level: how many distinct items of the last twenty orders are low at the warehouse.
 pub fn stock_level(b: &[i64], names: &[u8], q: StockLevel) -> StockLevelAnswer
-    ensures { λ r. ⌜ stockLevelSays (r .outcome) ≡ stockLevelAnswer (now (b .entry)) (now (names .entry)) q ⌝ }
+    ensures { λ r. ⌜ StockLevelCall (now (b .entry)) (now (names .entry)) q r ⌝ }
 {
-    let refusal = level_fault(b, names, q);
+    let Head::Book(d) = layout::head_of(b, names) else {
+        return turned_away(cells::refused(2));
+    };
+    let refusal = fault_in(b, d, q);
     if refusal.number == 0 {
-        let d = layout::dims_of(b);
         let count = low_items(b, d, q);
         let outcome = StockLevelOutcome::Committed(StockLevelFigures { count });
         return StockLevelAnswer { outcome };
     }
-    let outcome = StockLevelOutcome::Refused(refusal);
-    StockLevelAnswer { outcome }
+    turned_away(refusal)
 }

@@ -4,12 +4,14 @@ ghost use mathlib.Core.Bool.{true};
 ghost use mathlib.Core.List.{[], _∷_};
 ghost use Prim.Native.Nat.{_+_, _*_, _≤_, _<_};
 ghost use lib.ListN.{length};
-ghost use lib.Seq.{sets, paste};
+ghost use lib.Seq.{paste};
 ghost use Rattle.model.specs.Tests.{allOf};
 ghost use Rattle.model.specs.Names.{whoOf};
 ghost use Rattle.model.specs.Request.{requestOf, linesOf, newOrder, payment, delivery, orderStatus, stockLevel};
-ghost use Rattle.model.specs.RequestLine.{isName, hasDigits, decimal, hasWho, whoField, lineSmall, lineFields, hasForm, writeAnswer, writeBuffer, writeSays};
-ghost use Rattle.writing.specs.Writing.{Put, Whole, notWritten};
+ghost use Rattle.model.specs.Text.{hasDigits, decimal, tabbed};
+ghost use Rattle.model.specs.RequestLine.{isName, hasWho, whoField, lineSmall, lineFields, hasForm, lineOf};
+ghost use Rattle.text.specs.Writing.{Wrote};
+ghost use Rattle.writing.specs.Writing.{Written, notWritten};
 use model::Delivery;
 use model::Form;
 use model::NewOrder;
@@ -20,47 +22,6 @@ use model::Selection;
 use model::StockLevel;
 use model::WriteAnswer;
 use model::WriteOutcome;
-
-// A number written from a place on; the place after it.
-fn put_number(line: &mut [u8], at: usize, n: u64) -> usize
-    requires { ⌜ (n < 10000000000) × (at + length (decimal n) ≤ length (now line)) ⌝ }
-    ensures { λ r. ⌜ (r ≡ at + length (decimal n)) × (now (line .exit) ≡ sets (now (line .entry)) at (decimal n)) ⌝ }
-{
-    if n < 10 {
-        line[at] = (48 + n % 10) as u8;
-        return at + 1;
-    }
-    let p = put_number(&mut line[..], at, n / 10);
-    line[p] = (48 + n % 10) as u8;
-    p + 1
-}
-
-// A tab and a number.
-fn put_one(line: &mut [u8], at: usize, n: u64) -> usize
-    requires { ⌜ (n < 10000000000) × (at + 11 ≤ length (now line)) ⌝ }
-    ensures { λ r. ⌜ Put (now (line .entry)) (now (line .exit)) at r (decimal n ∷ []) × (r ≤ at + 11) ⌝ }
-{
-    line[at] = 9;
-    put_number(line, at + 1, n)
-}
-
-// Two numbers, each after a tab.
-fn put_two(line: &mut [u8], at: usize, a: u64, b: u64) -> usize
-    requires { ⌜ (a < 10000000000) × ((b < 10000000000) × (at + 22 ≤ length (now line))) ⌝ }
-    ensures { λ r. ⌜ Put (now (line .entry)) (now (line .exit)) at r (decimal a ∷ decimal b ∷ []) × (r ≤ at + 22) ⌝ }
-{
-    let p = put_one(line, at, a);
-    put_one(line, p, b)
-}
-
-// Three numbers, each after a tab.
-fn put_three(line: &mut [u8], at: usize, a: u64, b: u64, c: u64) -> usize
-    requires { ⌜ (a < 10000000000) × ((b < 10000000000) × ((c < 10000000000) × (at + 33 ≤ length (now line)))) ⌝ }
-    ensures { λ r. ⌜ Put (now (line .entry)) (now (line .exit)) at r (decimal a ∷ decimal b ∷ decimal c ∷ []) × (r ≤ at + 33) ⌝ }
-{
-    let p = put_two(line, at, a, b);
-    put_one(line, p, c)
-}
 
 // The first n bytes of a line copied into a buffer from a place on.
 fn copy(buffer: &mut [u8], at: usize, line: &[u8], n: usize)
@@ -76,18 +37,18 @@ fn copy(buffer: &mut [u8], at: usize, line: &[u8], n: usize)
 
 // A tab, # and a number.
 fn put_hash(line: &mut [u8], at: usize, c: u64) -> usize
-    requires { ⌜ (hasDigits c ≡ true) × (at + 18 ≤ length (now line)) ⌝ }
-    ensures { λ r. ⌜ Put (now (line .entry)) (now (line .exit)) at r ((35 ∷ decimal c) ∷ []) × (r ≤ at + 18) ⌝ }
+    requires { ⌜ at + 22 ≤ length (now line) ⌝ }
+    ensures { λ r. ⌜ Wrote (now (line .entry)) (now (line .exit)) at r (tabbed ((35 ∷ decimal c) ∷ [])) × (r ≤ at + 22) ⌝ }
 {
     line[at] = 9;
     line[at + 1] = 35;
-    put_number(line, at + 2, c)
+    text::put_digits(line, at + 2, c)
 }
 
 // A tab, = and a name.
 fn put_name(line: &mut [u8], at: usize, name: &[u8]) -> usize
-    requires { ⌜ (isName (now name) ≡ true) × (at + 18 ≤ length (now line)) ⌝ }
-    ensures { λ r. ⌜ Put (now (line .entry)) (now (line .exit)) at r ((61 ∷ now (name .entry)) ∷ []) × (r ≤ at + 18) ⌝ }
+    requires { ⌜ (isName (now name) ≡ true) × (at + 22 ≤ length (now line)) ⌝ }
+    ensures { λ r. ⌜ Wrote (now (line .entry)) (now (line .exit)) at r (tabbed ((61 ∷ now (name .entry)) ∷ [])) × (r ≤ at + 22) ⌝ }
 {
     line[at] = 9;
     line[at + 1] = 61;
@@ -98,8 +59,8 @@ fn put_name(line: &mut [u8], at: usize, name: &[u8]) -> usize
 
 // A tab and who.
 fn put_who(line: &mut [u8], at: usize, who: Selection, name: &[u8]) -> usize
-    requires { ⌜ (hasWho (whoOf who (now name)) ≡ true) × (at + 18 ≤ length (now line)) ⌝ }
-    ensures { λ r. ⌜ Put (now (line .entry)) (now (line .exit)) at r (whoField (whoOf who (now (name .entry))) ∷ []) × (r ≤ at + 18) ⌝ }
+    requires { ⌜ (hasWho (whoOf who (now name)) ≡ true) × (at + 22 ≤ length (now line)) ⌝ }
+    ensures { λ r. ⌜ Wrote (now (line .entry)) (now (line .exit)) at r (tabbed (whoField (whoOf who (now (name .entry))) ∷ [])) × (r ≤ at + 22) ⌝ }
 {
     match who {
         Selection::Number(c) => put_hash(line, at, c),
@@ -119,7 +80,8 @@ fn smaller(a: usize, b: usize) -> usize
 
 // How many lines three lists hold.
 fn count(items: &[u64], supplies: &[u64], quantities: &[u64]) -> usize
-    ensures { λ r. ⌜ (r ≡ length (linesOf (now (items .entry)) (now (supplies .entry)) (now (quantities .entry)))) × ((r ≤ length (now (items .entry))) × ((r ≤ length (now (supplies .entry))) × (r ≤ length (now (quantities .entry))))) ⌝ }
+    ensures { λ r. ⌜ (r ≡ length (linesOf (now (items .entry)) (now (supplies .entry)) (now (quantities .entry))))
+        × ((r ≤ length (now (items .entry))) × ((r ≤ length (now (supplies .entry))) × (r ≤ length (now (quantities .entry))))) ⌝ }
 {
     let n = smaller(items.len(), supplies.len());
     smaller(n, quantities.len())
@@ -155,48 +117,27 @@ fn put_lines(
     supplies: &[u64],
     quantities: &[u64],
 ) -> usize
-    requires { ⌜ (allOf lineSmall (linesOf (now items) (now supplies) (now quantities)) ≡ true) × (at + 33 * length (linesOf (now items) (now supplies) (now quantities)) ≤ length (now line)) ⌝ }
-    ensures { λ r. ⌜ Put (now (line .entry)) (now (line .exit)) at r (lineFields (linesOf (now (items .entry)) (now (supplies .entry)) (now (quantities .entry)))) × (r ≤ at + 33 * length (linesOf (now (items .entry)) (now (supplies .entry)) (now (quantities .entry)))) ⌝ }
+    requires { ⌜ at + 63 * length (linesOf (now items) (now supplies) (now quantities)) ≤ length (now line) ⌝ }
+    ensures { λ r. ⌜ Wrote (now (line .entry)) (now (line .exit)) at r (tabbed (lineFields (linesOf (now (items .entry)) (now (supplies .entry)) (now (quantities .entry)))))
+        × (r ≤ at + 63 * length (linesOf (now (items .entry)) (now (supplies .entry)) (now (quantities .entry)))) ⌝ }
 {
     let n = count(items, supplies, quantities);
     let mut p = at;
     let mut i = 0;
     while i < n {
-        p = put_three(line, p, items[i], supplies[i], quantities[i]);
+        p = text::put_three(line, p, items[i], supplies[i], quantities[i]);
         i += 1;
     }
     p
 }
 
-// A Delivery's line, from the front.
-fn put_delivery(line: &mut [u8], q: Delivery) -> usize
-    requires { ⌜ (hasForm (delivery q) ≡ true) × (541 ≤ length (now line)) ⌝ }
-    ensures { λ r. ⌜ Whole (now (line .exit)) r (delivery q) ⌝ }
-{
-    line[0] = 68;
-    let p = put_three(line, 1, q.warehouse, q.carrier, q.date);
-    line[p] = 10;
-    p + 1
-}
-
-// A Stock-Level's line, from the front.
-fn put_stock_level(line: &mut [u8], q: StockLevel) -> usize
-    requires { ⌜ (hasForm (stockLevel q) ≡ true) × (541 ≤ length (now line)) ⌝ }
-    ensures { λ r. ⌜ Whole (now (line .exit)) r (stockLevel q) ⌝ }
-{
-    line[0] = 76;
-    let p = put_three(line, 1, q.warehouse, q.district, q.threshold);
-    line[p] = 10;
-    p + 1
-}
-
 // An Order-Status's line, from the front.
 fn put_order_status(line: &mut [u8], q: OrderStatus, who: Selection, name: &[u8]) -> usize
-    requires { ⌜ (hasForm (orderStatus q (whoOf who (now name))) ≡ true) × (541 ≤ length (now line)) ⌝ }
-    ensures { λ r. ⌜ Whole (now (line .exit)) r (orderStatus q (whoOf who (now (name .entry)))) ⌝ }
+    requires { ⌜ (hasWho (whoOf who (now name)) ≡ true) × (1031 ≤ length (now line)) ⌝ }
+    ensures { λ r. ⌜ Wrote (now (line .entry)) (now (line .exit)) 0 r (lineOf (orderStatus q (whoOf who (now (name .entry))))) × (r ≤ 1031) ⌝ }
 {
     line[0] = 83;
-    let a = put_two(line, 1, q.warehouse, q.district);
+    let a = text::put_two(line, 1, q.warehouse, q.district);
     let p = put_who(line, a, who, name);
     line[p] = 10;
     p + 1
@@ -204,14 +145,14 @@ fn put_order_status(line: &mut [u8], q: OrderStatus, who: Selection, name: &[u8]
 
 // A Payment's line, from the front.
 fn put_payment(line: &mut [u8], q: Payment, who: Selection, name: &[u8]) -> usize
-    requires { ⌜ (hasForm (payment q (whoOf who (now name))) ≡ true) × (541 ≤ length (now line)) ⌝ }
-    ensures { λ r. ⌜ Whole (now (line .exit)) r (payment q (whoOf who (now (name .entry)))) ⌝ }
+    requires { ⌜ (hasWho (whoOf who (now name)) ≡ true) × (1031 ≤ length (now line)) ⌝ }
+    ensures { λ r. ⌜ Wrote (now (line .entry)) (now (line .exit)) 0 r (lineOf (payment q (whoOf who (now (name .entry))))) × (r ≤ 1031) ⌝ }
 {
     line[0] = 80;
-    let a = put_two(line, 1, q.warehouse, q.district);
-    let b = put_two(line, a, q.custwarehouse, q.custdistrict);
+    let a = text::put_two(line, 1, q.warehouse, q.district);
+    let b = text::put_two(line, a, q.custwarehouse, q.custdistrict);
     let c = put_who(line, b, who, name);
-    let p = put_two(line, c, q.date, q.amount);
+    let p = text::put_two(line, c, q.date, q.amount);
     line[p] = 10;
     p + 1
 }
@@ -224,18 +165,19 @@ fn put_new_order(
     supplies: &[u64],
     quantities: &[u64],
 ) -> usize
-    requires { ⌜ (hasForm (newOrder q (linesOf (now items) (now supplies) (now quantities))) ≡ true) × (541 ≤ length (now line)) ⌝ }
-    ensures { λ r. ⌜ Whole (now (line .exit)) r (newOrder q (linesOf (now (items .entry)) (now (supplies .entry)) (now (quantities .entry)))) ⌝ }
+    requires { ⌜ (length (linesOf (now items) (now supplies) (now quantities)) ≤ 15) × (1031 ≤ length (now line)) ⌝ }
+    ensures { λ r. ⌜ Wrote (now (line .entry)) (now (line .exit)) 0 r
+        (lineOf (newOrder q (linesOf (now (items .entry)) (now (supplies .entry)) (now (quantities .entry))))) × (r ≤ 1031) ⌝ }
 {
     line[0] = 78;
-    let a = put_two(line, 1, q.warehouse, q.district);
-    let b = put_two(line, a, q.customer, q.date);
+    let a = text::put_two(line, 1, q.warehouse, q.district);
+    let b = text::put_two(line, a, q.customer, q.date);
     let p = put_lines(line, b, items, supplies, quantities);
     line[p] = 10;
     p + 1
 }
 
-// A request's line, from the front.
+// A request's line, from the front: a letter, at most 49 fields of 21 bytes, byte 10.
 fn put_line(
     line: &mut [u8],
     form: Form,
@@ -244,15 +186,16 @@ fn put_line(
     quantities: &[u64],
     name: &[u8],
 ) -> usize
-    requires { ⌜ (hasForm (requestOf form (linesOf (now items) (now supplies) (now quantities)) (now name)) ≡ true) × (541 ≤ length (now line)) ⌝ }
-    ensures { λ r. ⌜ Whole (now (line .exit)) r (requestOf form (linesOf (now (items .entry)) (now (supplies .entry)) (now (quantities .entry))) (now (name .entry))) ⌝ }
+    requires { ⌜ (hasForm (requestOf form (linesOf (now items) (now supplies) (now quantities)) (now name)) ≡ true) × (1031 ≤ length (now line)) ⌝ }
+    ensures { λ r. ⌜ Wrote (now (line .entry)) (now (line .exit)) 0 r
+        (lineOf (requestOf form (linesOf (now (items .entry)) (now (supplies .entry)) (now (quantities .entry))) (now (name .entry)))) × (r ≤ 1031) ⌝ }
 {
     match form {
         Form::NewOrder(q) => put_new_order(line, q, items, supplies, quantities),
         Form::Payment(q, who) => put_payment(line, q, who, name),
-        Form::Delivery(q) => put_delivery(line, q),
+        Form::Delivery(q) => text::three_line(line, 68, q.warehouse, q.carrier, q.date),
         Form::OrderStatus(q, who) => put_order_status(line, q, who, name),
-        Form::StockLevel(q) => put_stock_level(line, q),
+        Form::StockLevel(q) => text::three_line(line, 76, q.warehouse, q.district, q.threshold),
     }
 }
 
@@ -354,10 +297,11 @@ pub fn write_line(
     quantities: &[u64],
     name: &[u8],
 ) -> WriteAnswer
-    ensures { λ r. ⌜ (writeSays (r .outcome) ≡ writeAnswer (now (buffer .entry)) (requestOf form (linesOf (now (items .entry)) (now (supplies .entry)) (now (quantities .entry))) (now (name .entry)))) × (now (buffer .exit) ≡ writeBuffer (now (buffer .entry)) (requestOf form (linesOf (now (items .entry)) (now (supplies .entry)) (now (quantities .entry))) (now (name .entry)))) ⌝ }
+    ensures { λ r. ⌜ Written (now (buffer .entry)) (now (buffer .exit)) (r .outcome)
+        (requestOf form (linesOf (now (items .entry)) (now (supplies .entry)) (now (quantities .entry))) (now (name .entry))) ⌝ }
 {
     if form_ok(form, items, supplies, quantities, name) {
-        let mut line = [0u8; 541];
+        let mut line = [0u8; 1031];
         let n = put_line(&mut line, form, items, supplies, quantities, name);
         if buffer.len() < n {
             return not_written();

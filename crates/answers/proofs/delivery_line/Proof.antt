@@ -1,47 +1,40 @@
 use native.Mathlib.Omega.{arith}
 use mathlib.Core.Path.{_∙_}
 use lib.ListN.{length-set}
-use Rattle.answers.proofs.Putting.{put-then, whole-line}
+use Rattle.text.proofs.Putting.{fields-then, whole-line}
 use borrow.Author.Needs.{needs}
 use Rattle.answers.proofs.delivery_line.Statement.{statement}
 use Rattle.answers.proofs.delivery_line.Tie as tie
 use Rattle.answers.proofs.delivery_line.Reads as reads
 use Rattle.answers.proofs.delivery_line.Lts as lts
-use Rattle.answers.proofs.put_orders.Reads as put-orders-reads
-use Rattle.answers.proofs.put_two.Reads as put-two-reads
+use Rattle.text.proofs.put_ten.Reads as put-ten-reads
+use Rattle.text.proofs.put_two.Reads as put-two-reads
 
--- src/lib.rt:154:5
 slice-write-line : tie.Need-slice-write-line
 slice-write-line c = search needs
 
--- src/lib.rt:155:9
 put-two-requires : tie.Need-put-two-requires
 put-two-requires c κs =
     simp length-set (omega (arith, (c .before .before .pre)))
 
--- src/lib.rt:156:9
-put-orders-requires : tie.Need-put-orders-requires
-put-orders-requires c κs =
+put-ten-requires : tie.Need-put-ten-requires
+put-ten-requires c κs =
     omega (arith, (c .before .before .before .before .before .before .pre), c .before .before .before .put-two .ensures .1, c .before .before .before .put-two .kept .0, length-set (c .before .before .before .before .before .before .args .line .now) 0 68)
 
--- src/lib.rt:157:5
 slice-write-line-2 : tie.Need-slice-write-line-2
 slice-write-line-2 c =
-    omega (arith, (c .before .before .before .before .before .before .before .before .before .pre), c .before .before .before .before .before .before .put-two .ensures .1, c .before .before .put-orders .ensures .1, c .before .before .before .before .before .before .put-two .kept .0, c .before .before .put-orders .kept .0, length-set (c .before .before .before .before .before .before .before .before .before .args .line .now) 0 68)
+    omega (arith, (c .before .before .before .before .before .before .before .before .before .pre), c .before .before .before .before .before .before .put-two .ensures .1, c .before .before .put-ten .ensures .1, c .before .before .before .before .before .before .put-two .kept .0, c .before .before .put-ten .kept .0, length-set (c .before .before .before .before .before .before .before .before .before .args .line .now) 0 68)
 
--- src/lib.rt:158:5
 add-result : tie.Need-add-result
 add-result c = search needs
 
--- src/lib.rt:150:1
 same-length : tie.Need-same-length
 same-length c =
-    simp length-set (c .before .before .put-orders .kept .0 ∙ c .before .before .before .before .before .before .put-two .kept .0 ∙ length-set (c .before .before .before .before .before .before .before .before .before .args .line .now) 0 68)
+    simp length-set (c .before .before .put-ten .kept .0 ∙ c .before .before .before .before .before .before .put-two .kept .0 ∙ length-set (c .before .before .before .before .before .before .before .before .before .args .line .now) 0 68)
 
--- src/lib.rt:150:1
 returns : tie.Need-returns
 returns c =
-    (whole-line _ _ _ _ _ (put-then _ _ _ _ _ _ _ _ (c .before .before .before .before .before .before .put-two .ensures .0) (c .before .before .put-orders .ensures .0)), omega (arith, c .before .before .before .before .before .before .put-two .ensures .1, c .before .before .put-orders .ensures .1))
+    (whole-line _ _ _ _ _ (fields-then _ _ _ _ _ _ _ _ (c .before .before .before .before .before .before .put-two .ensures .0) (c .before .before .put-ten .ensures .0)), omega (arith, c .before .before .before .before .before .before .put-two .ensures .1, c .before .before .put-ten .ensures .1))
 
 pub delivery-line-spec : {M : Type 1} → statement M
 delivery-line-spec =
@@ -49,7 +42,7 @@ delivery-line-spec =
     (tie.spec
     slice-write-line
     put-two-requires
-    put-orders-requires
+    put-ten-requires
     slice-write-line-2
     add-result
     same-length

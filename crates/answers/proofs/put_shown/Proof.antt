@@ -3,59 +3,51 @@ use mathlib.Core.Path.{_≡_}
 use Prim.Native.Nat.{_+_, _*_, _-_, _≤_}
 use native.Mathlib.Omega.{arith}
 use lib.ListN.{length, take}
-use Rattle.answers.specs.Writing.{Put}
+use Rattle.model.specs.Text.{signeds, tabbed}
+use Rattle.text.specs.Writing.{Wrote}
 use Rattle.cells.proofs.Signed.{held}
-use Rattle.answers.proofs.Putting.{put-none, put-number, put-numbers}
+use Rattle.text.proofs.Putting.{no-field, number-step, number-all}
 use Rattle.answers.proofs.put_shown.Statement.{statement}
 use Rattle.answers.proofs.put_shown.Tie as tie
 use Rattle.answers.proofs.put_shown.Reads as reads
 use Rattle.answers.proofs.put_shown.Lts as lts
-use Rattle.answers.proofs.put_int.Reads as put-int-reads
+use Rattle.text.proofs.put_signed.Reads as put-signed-reads
 
 abbrev Inv-loop : tie.InvT-loop
-Inv-loop line₀ at shown p₀ i₀ line p i = (i ≤ length shown) × ((length line ≡ length line₀) × ((p ≤ at + 21 * i) × Put line₀ line at p (take i shown)))
+Inv-loop line₀ at shown p₀ i₀ line p i = (i ≤ length shown) × ((length line ≡ length line₀) × ((p ≤ at + 21 * i) × Wrote line₀ line at p (tabbed (signeds (take i shown)))))
 
 abbrev μ-loop : tie.MeasureT-loop
 μ-loop line₀ at shown p₀ i₀ line p i = length shown - i
 
--- src/lib.rt:108:5
 loop-holds : tie.Need-loop-holds Inv-loop μ-loop
 loop-holds c =
-    (search needs, (search needs, (search needs, put-none (c .before .args .line .now) (c .before .args .at))))
+    (search needs, (search needs, (search needs, no-field (c .before .args .line .now) (c .before .args .at))))
 
--- src/lib.rt:109:30
-mul-put-int : tie.Need-mul-put-int Inv-loop μ-loop
-mul-put-int c = search needs
+mul-put-signed : tie.Need-mul-put-signed Inv-loop μ-loop
+mul-put-signed c = search needs
 
--- src/lib.rt:109:30
-shared-slice-copy-out-put-int : tie.Need-shared-slice-copy-out-put-int Inv-loop μ-loop
-shared-slice-copy-out-put-int c = search needs
+shared-slice-copy-out-put-signed : tie.Need-shared-slice-copy-out-put-signed Inv-loop μ-loop
+shared-slice-copy-out-put-signed c = search needs
 
--- src/lib.rt:109:9
-put-int-requires : tie.Need-put-int-requires Inv-loop μ-loop
-put-int-requires c κs = search needs
+put-signed-requires : tie.Need-put-signed-requires Inv-loop μ-loop
+put-signed-requires c κs = search needs
 
--- src/lib.rt:110:9
 add-i : tie.Need-add-i Inv-loop μ-loop
 add-i c = search needs
 
--- src/lib.rt:108:5
 loop-less : tie.Need-loop-less Inv-loop μ-loop
 loop-less c = search needs
 
--- src/lib.rt:108:5
 loop-again : tie.Need-loop-again Inv-loop μ-loop
 loop-again c =
-    (search needs, (search needs, (omega (arith, c .before .before .put-int .ensures .1, c .before .before .before .before .before .before .loop .inv .1 .1 .0), put-number _ _ _ _ _ _ (c .before .before .before .before .before .before .loop .i) _ (c .before .before .before .before .before .loop-test .taken) (c .before .before .before .before .before .before .loop .inv .1 .1 .1) (rw (held (c .before .before .before .put-int-arg2 .given)) at (c .before .before .put-int .ensures .0)))))
+    (search needs, (search needs, (omega (arith, c .before .before .put-signed .ensures .1, c .before .before .before .before .before .before .loop .inv .1 .1 .0), number-step _ _ _ _ (c .before .before .before .before .before .before .loop .i) _ _ _ (c .before .before .before .before .before .loop-test .taken) (c .before .before .before .before .before .before .loop .inv .1 .1 .1) (rw (held (c .before .before .before .put-signed-arg2 .given)) at (c .before .before .put-signed .ensures .0)))))
 
--- src/lib.rt:102:1
 same-length : tie.Need-same-length Inv-loop μ-loop
 same-length c = search needs
 
--- src/lib.rt:102:1
 returns : tie.Need-returns Inv-loop μ-loop
 returns c =
-    (put-numbers _ _ _ _ (c .before .loop .i) _ (c .loop-test .left) (c .before .loop .inv .1 .1 .1), omega (arith, c .before .loop .inv .0, c .before .loop .inv .1 .1 .0))
+    (number-all _ _ _ _ (c .before .loop .i) _ (c .loop-test .left) (c .before .loop .inv .1 .1 .1), omega (arith, c .before .loop .inv .0, c .before .loop .inv .1 .1 .0))
 
 pub put-shown-spec : {M : Type 1} → statement M
 put-shown-spec =
@@ -64,9 +56,9 @@ put-shown-spec =
     Inv-loop
     μ-loop
     loop-holds
-    mul-put-int
-    shared-slice-copy-out-put-int
-    put-int-requires
+    mul-put-signed
+    shared-slice-copy-out-put-signed
+    put-signed-requires
     add-i
     loop-less
     loop-again

@@ -2,59 +2,50 @@ use native.Mathlib.Omega.{arith}
 use mathlib.Core.Path.{_∙_}
 use Rattle.cells.proofs.Signed.{held}
 use lib.ListN.{length-set}
-use Rattle.answers.proofs.Putting.{put-then, whole-line}
+use Rattle.text.proofs.Putting.{fields-then, whole-line}
 use borrow.Author.Needs.{needs}
 use Rattle.answers.proofs.status_line.Statement.{statement}
 use Rattle.answers.proofs.status_line.Tie as tie
 use Rattle.answers.proofs.status_line.Reads as reads
 use Rattle.answers.proofs.status_line.Lts as lts
-use Rattle.answers.proofs.put_int.Reads as put-int-reads
+use Rattle.text.proofs.put_signed.Reads as put-signed-reads
 use Rattle.answers.proofs.put_shown.Reads as put-shown-reads
-use Rattle.answers.proofs.put_three.Reads as put-three-reads
-use Rattle.answers.proofs.put_two.Reads as put-two-reads
+use Rattle.text.proofs.put_three.Reads as put-three-reads
+use Rattle.text.proofs.put_two.Reads as put-two-reads
 
--- src/lib.rt:166:5
 slice-write-line : tie.Need-slice-write-line
 slice-write-line c = search needs
 
--- src/lib.rt:167:9
 put-two-requires : tie.Need-put-two-requires
 put-two-requires c κs =
     simp length-set (omega (arith, (c .before .before .pre)))
 
--- src/lib.rt:168:9
-put-int-requires : tie.Need-put-int-requires
-put-int-requires c κs =
+put-signed-requires : tie.Need-put-signed-requires
+put-signed-requires c κs =
     omega (arith, (c .before .before .before .before .before .before .before .pre), c .before .before .before .before .put-two .ensures .1, c .before .before .before .before .put-two .kept .0, length-set (c .before .before .before .before .before .before .before .args .line .now) 0 83)
 
--- src/lib.rt:169:9
 put-three-requires : tie.Need-put-three-requires
 put-three-requires c κs =
-    omega (arith, (c .before .before .before .before .before .before .before .before .before .before .before .pre), c .before .before .before .before .before .before .before .before .put-two .ensures .1, c .before .before .before .put-int .ensures .1, c .before .before .before .before .before .before .before .before .put-two .kept .0, c .before .before .before .put-int .kept .0, length-set (c .before .before .before .before .before .before .before .before .before .before .before .args .line .now) 0 83)
+    omega (arith, (c .before .before .before .before .before .before .before .before .before .before .before .pre), c .before .before .before .before .before .before .before .before .put-two .ensures .1, c .before .before .before .put-signed .ensures .1, c .before .before .before .before .before .before .before .before .put-two .kept .0, c .before .before .before .put-signed .kept .0, length-set (c .before .before .before .before .before .before .before .before .before .before .before .args .line .now) 0 83)
 
--- src/lib.rt:170:9
 put-shown-requires : tie.Need-put-shown-requires
 put-shown-requires c κs =
-    omega (arith, (c .before .before .before .before .before .before .before .before .before .before .before .before .before .before .before .pre), c .before .before .before .before .before .before .before .before .before .before .before .before .put-two .ensures .1, c .before .before .before .before .before .before .before .put-int .ensures .1, c .before .before .before .put-three .ensures .1, c .before .before .before .before .before .before .before .before .before .before .before .before .put-two .kept .0, c .before .before .before .before .before .before .before .put-int .kept .0, c .before .before .before .put-three .kept .0, length-set (c .before .before .before .before .before .before .before .before .before .before .before .before .before .before .before .args .line .now) 0 83)
+    omega (arith, (c .before .before .before .before .before .before .before .before .before .before .before .before .before .before .before .pre), c .before .before .before .before .before .before .before .before .before .before .before .before .put-two .ensures .1, c .before .before .before .before .before .before .before .put-signed .ensures .1, c .before .before .before .put-three .ensures .1, c .before .before .before .before .before .before .before .before .before .before .before .before .put-two .kept .0, c .before .before .before .before .before .before .before .put-signed .kept .0, c .before .before .before .put-three .kept .0, length-set (c .before .before .before .before .before .before .before .before .before .before .before .before .before .before .before .args .line .now) 0 83)
 
--- src/lib.rt:171:5
 slice-write-line-2 : tie.Need-slice-write-line-2
 slice-write-line-2 c =
-    omega (arith, (c .before .before .before .before .before .before .before .before .before .before .before .before .before .before .before .before .before .before .pre), c .before .before .before .before .before .before .before .before .before .before .before .before .before .before .before .put-two .ensures .1, c .before .before .before .before .before .before .before .before .before .before .put-int .ensures .1, c .before .before .before .before .before .before .put-three .ensures .1, c .before .before .put-shown .ensures .1, c .before .before .before .before .before .before .before .before .before .before .before .before .before .before .before .put-two .kept .0, c .before .before .before .before .before .before .before .before .before .before .put-int .kept .0, c .before .before .before .before .before .before .put-three .kept .0, c .before .before .put-shown .kept .0, length-set (c .before .before .before .before .before .before .before .before .before .before .before .before .before .before .before .before .before .before .args .line .now) 0 83)
+    omega (arith, (c .before .before .before .before .before .before .before .before .before .before .before .before .before .before .before .before .before .before .pre), c .before .before .before .before .before .before .before .before .before .before .before .before .before .before .before .put-two .ensures .1, c .before .before .before .before .before .before .before .before .before .before .put-signed .ensures .1, c .before .before .before .before .before .before .put-three .ensures .1, c .before .before .put-shown .ensures .1, c .before .before .before .before .before .before .before .before .before .before .before .before .before .before .before .put-two .kept .0, c .before .before .before .before .before .before .before .before .before .before .put-signed .kept .0, c .before .before .before .before .before .before .put-three .kept .0, c .before .before .put-shown .kept .0, length-set (c .before .before .before .before .before .before .before .before .before .before .before .before .before .before .before .before .before .before .args .line .now) 0 83)
 
--- src/lib.rt:172:5
 add-result : tie.Need-add-result
 add-result c = search needs
 
--- src/lib.rt:162:1
 same-length : tie.Need-same-length
 same-length c =
-    simp length-set (c .before .before .put-shown .kept .0 ∙ c .before .before .before .before .before .before .put-three .kept .0 ∙ c .before .before .before .before .before .before .before .before .before .before .put-int .kept .0 ∙ c .before .before .before .before .before .before .before .before .before .before .before .before .before .before .before .put-two .kept .0 ∙ length-set (c .before .before .before .before .before .before .before .before .before .before .before .before .before .before .before .before .before .before .args .line .now) 0 83)
+    simp length-set (c .before .before .put-shown .kept .0 ∙ c .before .before .before .before .before .before .put-three .kept .0 ∙ c .before .before .before .before .before .before .before .before .before .before .put-signed .kept .0 ∙ c .before .before .before .before .before .before .before .before .before .before .before .before .before .before .before .put-two .kept .0 ∙ length-set (c .before .before .before .before .before .before .before .before .before .before .before .before .before .before .before .before .before .before .args .line .now) 0 83)
 
--- src/lib.rt:162:1
 returns : tie.Need-returns
 returns c =
-    (whole-line _ _ _ _ _ (put-then _ _ _ _ _ _ _ _ (c .before .before .before .before .before .before .before .before .before .before .before .before .before .before .before .put-two .ensures .0) (put-then _ _ _ _ _ _ _ _ (rw (held (c .before .before .before .before .before .before .before .before .before .before .before .struct-told .given .1 .0 .1)) at (c .before .before .before .before .before .before .before .before .before .before .put-int .ensures .0)) (put-then _ _ _ _ _ _ _ _ (c .before .before .before .before .before .before .put-three .ensures .0) (c .before .before .put-shown .ensures .0)))), omega (arith, (c .before .before .before .before .before .before .before .before .before .before .before .before .before .before .before .before .before .before .pre), c .before .before .before .before .before .before .before .before .before .before .before .before .before .before .before .put-two .ensures .1, c .before .before .before .before .before .before .before .before .before .before .put-int .ensures .1, c .before .before .before .before .before .before .put-three .ensures .1, c .before .before .put-shown .ensures .1))
+    (whole-line _ _ _ _ _ (fields-then _ _ _ _ _ _ _ _ (c .before .before .before .before .before .before .before .before .before .before .before .before .before .before .before .put-two .ensures .0) (fields-then _ _ _ _ _ _ _ _ (rw (held (c .before .before .before .before .before .before .before .before .before .before .before .struct-told .given .1 .0 .1)) at (c .before .before .before .before .before .before .before .before .before .before .put-signed .ensures .0)) (fields-then _ _ _ _ _ _ _ _ (c .before .before .before .before .before .before .put-three .ensures .0) (c .before .before .put-shown .ensures .0)))), omega (arith, (c .before .before .before .before .before .before .before .before .before .before .before .before .before .before .before .before .before .before .pre), c .before .before .before .before .before .before .before .before .before .before .before .before .before .before .before .put-two .ensures .1, c .before .before .before .before .before .before .before .before .before .before .put-signed .ensures .1, c .before .before .before .before .before .before .put-three .ensures .1, c .before .before .put-shown .ensures .1))
 
 pub status-line-spec : {M : Type 1} → statement M
 status-line-spec =
@@ -62,7 +53,7 @@ status-line-spec =
     (tie.spec
     slice-write-line
     put-two-requires
-    put-int-requires
+    put-signed-requires
     put-three-requires
     put-shown-requires
     slice-write-line-2

@@ -10,87 +10,67 @@ use Rattle.answers.proofs.tell_order_status.Reads as tell-order-status-
 use Rattle.answers.proofs.tell_payment.Reads as tell-payment-reads
 use Rattle.answers.proofs.tell_stock_level.Reads as tell-stock-level-reads
 
--- src/lib.rt:236:34
 enum-known-o : tie.Need-enum-known-o
 enum-known-o c = search needs
 
--- src/lib.rt:236:40
 tell-new-order-requires : tie.Need-tell-new-order-requires
 tell-new-order-requires c κs = search needs
 
--- src/lib.rt:237:33
 enum-known-o-2 : tie.Need-enum-known-o-2
 enum-known-o-2 c = search needs
 
--- src/lib.rt:237:39
 tell-payment-requires : tie.Need-tell-payment-requires
 tell-payment-requires c κs = search needs
 
--- src/lib.rt:238:34
 enum-known-o-3 : tie.Need-enum-known-o-3
 enum-known-o-3 c = search needs
 
--- src/lib.rt:238:40
 tell-delivery-requires : tie.Need-tell-delivery-requires
 tell-delivery-requires c κs = search needs
 
--- src/lib.rt:239:37
 enum-known-o-4 : tie.Need-enum-known-o-4
 enum-known-o-4 c = search needs
 
--- src/lib.rt:239:43
 tell-order-status-requires : tie.Need-tell-order-status-requires
 tell-order-status-requires c κs = search needs
 
--- src/lib.rt:240:36
 enum-known-o-5 : tie.Need-enum-known-o-5
 enum-known-o-5 c = search needs
 
--- src/lib.rt:240:42
 tell-stock-level-requires : tie.Need-tell-stock-level-requires
 tell-stock-level-requires c κs = search needs
 
--- src/lib.rt:231:1
 same-length : tie.Need-same-length
 same-length c = search needs
 
--- src/lib.rt:231:1
 returns : tie.Need-returns
 returns c =
     rw (c .before .before .before .before .before .o .given .1, ← new-order-alone _ _ _) (c .before .before .tell-new-order .ensures)
 
--- src/lib.rt:231:1
 same-length-2 : tie.Need-same-length-2
 same-length-2 c = search needs
 
--- src/lib.rt:231:1
 returns-2 : tie.Need-returns-2
 returns-2 c =
     rw (c .before .before .before .before .before .o2 .given .1, ← payment-alone _ _ _) (c .before .before .tell-payment .ensures)
 
--- src/lib.rt:231:1
 same-length-3 : tie.Need-same-length-3
 same-length-3 c = search needs
 
--- src/lib.rt:231:1
 returns-3 : tie.Need-returns-3
 returns-3 c =
     rw (c .before .before .before .before .before .o3 .given .1, ← delivery-alone _ _ _) (c .before .before .tell-delivery .ensures)
 
--- src/lib.rt:231:1
 same-length-4 : tie.Need-same-length-4
 same-length-4 c = search needs
 
--- src/lib.rt:231:1
 returns-4 : tie.Need-returns-4
 returns-4 c =
     rw (c .before .before .before .before .before .o4 .given .1, ← status-alone _ _ _) (c .before .before .tell-order-status .ensures)
 
--- src/lib.rt:231:1
 same-length-5 : tie.Need-same-length-5
 same-length-5 c = search needs
 
--- src/lib.rt:231:1
 returns-5 : tie.Need-returns-5
 returns-5 c =
     rw (c .before .before .before .before .before .o5 .given .1, ← stock-level-alone _ _ _) (c .before .before .tell-stock-level .ensures)

@@ -1,43 +1,36 @@
+use native.Mathlib.Omega.{arith}
 use Rattle.answers.specs.Writing.{outcomeLine}
 use borrow.Author.Needs.{needs}
 use Rattle.answers.proofs.tell_new_order.Statement.{statement}
 use Rattle.answers.proofs.tell_new_order.Tie as tie
 use Rattle.answers.proofs.tell_new_order.Reads as reads
 use Rattle.answers.proofs.tell_new_order.Lts as lts
-use Rattle.answers.proofs.new_order_line.Reads as new-order-line-reads
+use Rattle.text.proofs.three_line.Reads as three-line-reads
 use Rattle.answers.proofs.two_line.Reads as two-line-reads
 
--- src/lib.rt:181:36
 enum-known-o : tie.Need-enum-known-o
 enum-known-o c = search needs
 
--- src/lib.rt:181:42
-new-order-line-requires : tie.Need-new-order-line-requires
-new-order-line-requires c κs = search needs
+three-line-requires : tie.Need-three-line-requires
+three-line-requires c κs = search needs
 
--- src/lib.rt:182:34
 enum-known-o-2 : tie.Need-enum-known-o-2
 enum-known-o-2 c = search needs
 
--- src/lib.rt:182:40
 two-line-requires : tie.Need-two-line-requires
 two-line-requires c κs = search needs
 
--- src/lib.rt:176:1
 same-length : tie.Need-same-length
 same-length c = search needs
 
--- src/lib.rt:176:1
 returns : tie.Need-returns
 unfolding outcomeLine
 returns c =
-    rw (c .before .before .before .before .before .o .given .1) (c .before .before .new-order-line .ensures)
+    (rw (c .before .before .before .before .before .o .given .1) (c .before .before .three-line .ensures .0), omega (arith, c .before .before .three-line .ensures .1))
 
--- src/lib.rt:176:1
 same-length-2 : tie.Need-same-length-2
 same-length-2 c = search needs
 
--- src/lib.rt:176:1
 returns-2 : tie.Need-returns-2
 unfolding outcomeLine
 returns-2 c =
@@ -48,7 +41,7 @@ tell-new-order-spec =
     tie.close
     (tie.spec
     enum-known-o
-    new-order-line-requires
+    three-line-requires
     enum-known-o-2
     two-line-requires
     same-length

@@ -7,37 +7,29 @@ use Rattle.answers.proofs.tell_order_status.Lts as lts
 use Rattle.answers.proofs.status_line.Reads as status-line-reads
 use Rattle.answers.proofs.two_line.Reads as two-line-reads
 
--- src/lib.rt:214:34
 enum-known-o : tie.Need-enum-known-o
 enum-known-o c = search needs
 
--- src/lib.rt:214:40
 status-line-requires : tie.Need-status-line-requires
 status-line-requires c κs = search needs
 
--- src/lib.rt:215:32
 enum-known-o-2 : tie.Need-enum-known-o-2
 enum-known-o-2 c = search needs
 
--- src/lib.rt:215:38
 two-line-requires : tie.Need-two-line-requires
 two-line-requires c κs = search needs
 
--- src/lib.rt:209:1
 same-length : tie.Need-same-length
 same-length c = search needs
 
--- src/lib.rt:209:1
 returns : tie.Need-returns
 unfolding outcomeLine
 returns c =
     rw (c .before .before .before .before .before .o .given .1) (c .before .before .status-line .ensures)
 
--- src/lib.rt:209:1
 same-length-2 : tie.Need-same-length-2
 same-length-2 c = search needs
 
--- src/lib.rt:209:1
 returns-2 : tie.Need-returns-2
 unfolding outcomeLine
 returns-2 c =

@@ -8,37 +8,29 @@ use Rattle.answers.proofs.tell_payment.Lts as lts
 use Rattle.answers.proofs.payment_line.Reads as payment-line-reads
 use Rattle.answers.proofs.two_line.Reads as two-line-reads
 
--- src/lib.rt:192:35
 enum-known-o : tie.Need-enum-known-o
 enum-known-o c = search needs
 
--- src/lib.rt:192:41
 payment-line-requires : tie.Need-payment-line-requires
 payment-line-requires c κs = search needs
 
--- src/lib.rt:193:33
 enum-known-o-2 : tie.Need-enum-known-o-2
 enum-known-o-2 c = search needs
 
--- src/lib.rt:193:39
 two-line-requires : tie.Need-two-line-requires
 two-line-requires c κs = search needs
 
--- src/lib.rt:187:1
 same-length : tie.Need-same-length
 same-length c = search needs
 
--- src/lib.rt:187:1
 returns : tie.Need-returns
 unfolding outcomeLine
 returns c =
     rw (c .before .before .before .before .before .before .o .given .1) (rw (held (c .before .before .before .struct-told .given .1 .0 .1)) at (c .before .before .payment-line .ensures))
 
--- src/lib.rt:187:1
 same-length-2 : tie.Need-same-length-2
 same-length-2 c = search needs
 
--- src/lib.rt:187:1
 returns-2 : tie.Need-returns-2
 unfolding outcomeLine
 returns-2 c =

@@ -6,37 +6,29 @@ use Rattle.answers.proofs.tell_stock_level.Reads as reads
 use Rattle.answers.proofs.tell_stock_level.Lts as lts
 use Rattle.answers.proofs.two_line.Reads as two-line-reads
 
--- src/lib.rt:225:38
 enum-known-o : tie.Need-enum-known-o
 enum-known-o c = search needs
 
--- src/lib.rt:225:44
 two-line-requires : tie.Need-two-line-requires
 two-line-requires c κs = search needs
 
--- src/lib.rt:226:36
 enum-known-o-2 : tie.Need-enum-known-o-2
 enum-known-o-2 c = search needs
 
--- src/lib.rt:226:42
 two-line-requires-2 : tie.Need-two-line-requires-2
 two-line-requires-2 c κs = search needs
 
--- src/lib.rt:220:1
 same-length : tie.Need-same-length
 same-length c = search needs
 
--- src/lib.rt:220:1
 returns : tie.Need-returns
 unfolding outcomeLine
 returns c =
     rw (c .before .before .before .before .before .o .given .1) (c .before .before .two-line .ensures)
 
--- src/lib.rt:220:1
 same-length-2 : tie.Need-same-length-2
 same-length-2 c = search needs
 
--- src/lib.rt:220:1
 returns-2 : tie.Need-returns-2
 unfolding outcomeLine
 returns-2 c =

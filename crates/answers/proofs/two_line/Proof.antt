@@ -1,38 +1,32 @@
 use native.Mathlib.Omega.{arith}
 use mathlib.Core.Path.{_∙_}
 use lib.ListN.{length-set}
-use Rattle.answers.proofs.Putting.{whole-line}
+use Rattle.text.proofs.Putting.{whole-line}
 use borrow.Author.Needs.{needs}
 use Rattle.answers.proofs.two_line.Statement.{statement}
 use Rattle.answers.proofs.two_line.Tie as tie
 use Rattle.answers.proofs.two_line.Reads as reads
 use Rattle.answers.proofs.two_line.Lts as lts
-use Rattle.answers.proofs.put_two.Reads as put-two-reads
+use Rattle.text.proofs.put_two.Reads as put-two-reads
 
--- src/lib.rt:120:5
 slice-write-line : tie.Need-slice-write-line
 slice-write-line c = search needs
 
--- src/lib.rt:121:9
 put-two-requires : tie.Need-put-two-requires
 put-two-requires c κs =
     simp length-set (omega (arith, (c .before .before .pre)))
 
--- src/lib.rt:122:5
 slice-write-line-2 : tie.Need-slice-write-line-2
 slice-write-line-2 c =
     omega (arith, (c .before .before .before .before .before .pre), c .before .before .put-two .ensures .1, c .before .before .put-two .kept .0, length-set (c .before .before .before .before .before .args .line .now) 0 (c .before .before .before .before .before .args .x))
 
--- src/lib.rt:123:5
 add-result : tie.Need-add-result
 add-result c = search needs
 
--- src/lib.rt:116:1
 same-length : tie.Need-same-length
 same-length c =
     simp length-set (c .before .before .put-two .kept .0 ∙ length-set (c .before .before .before .before .before .args .line .now) 0 (c .before .before .before .before .before .args .x))
 
--- src/lib.rt:116:1
 returns : tie.Need-returns
 returns c =
     (whole-line _ _ _ _ _ (c .before .before .put-two .ensures .0), omega (arith, c .before .before .put-two .ensures .1))

@@ -7,25 +7,20 @@ use Rattle.answers.proofs.write_answer.Reads as reads
 use Rattle.answers.proofs.write_answer.Lts as lts
 use Rattle.answers.proofs.tell.Reads as tell-reads
 
--- src/lib.rt:254:9
 returns : tie.Need-returns
 returns c =
     line-none (c .before .before .args .buffer .now) (outcomeLine (c .before .before .args .o) (c .before .before .args .orders) (c .before .before .args .shown .now)) (short-buffer (c .before .before .args .buffer .now) (c .before .before .args .shown .now) (c .if1 .taken))
 
--- src/lib.rt:257:9
 returns-2 : tie.Need-returns-2
 returns-2 c =
     line-none (c .before .before .before .args .buffer .now) (outcomeLine (c .before .before .before .args .o) (c .before .before .before .args .orders) (c .before .before .before .args .shown .now)) (long-part (c .before .before .before .args .buffer .now) (c .before .before .before .args .shown .now) (c .if2 .taken))
 
--- src/lib.rt:259:5
 tell-requires : tie.Need-tell-requires
 tell-requires c κs = search needs
 
--- src/lib.rt:245:1
 same-length : tie.Need-same-length
 same-length c = search needs
 
--- src/lib.rt:245:1
 returns-3 : tie.Need-returns-3
 returns-3 c =
     line-written _ _ _ _ (room (c .before .before .before .before .before .before .before .args .buffer .now) (c .before .before .before .before .before .before .before .args .shown .now) (c .before .before .before .before .before .if1 .left) (c .before .before .before .before .if2 .left)) (c .before .before .tell .ensures .0) (c .before .before .tell .ensures .1) (c .before .before .before .before .before .if1 .left)

@@ -9,20 +9,16 @@ use Rattle.answers.proofs.write_no_form.Reads as reads
 use Rattle.answers.proofs.write_no_form.Lts as lts
 use Rattle.answers.proofs.two_line.Reads as two-line-reads
 
--- src/lib.rt:267:9
 returns : tie.Need-returns
 returns c =
     line-none (c .before .before .args .buffer .now) noFormLine (short-buffer (c .before .before .args .buffer .now) [] (c .if1 .taken))
 
--- src/lib.rt:269:5
 two-line-requires : tie.Need-two-line-requires
 two-line-requires c κs = search needs
 
--- src/lib.rt:263:1
 same-length : tie.Need-same-length
 same-length c = search needs
 
--- src/lib.rt:263:1
 returns-2 : tie.Need-returns-2
 unfolding noFormLine
 returns-2 c =

@@ -1,4 +1,4 @@
-use mathlib.Core.Path.{_∙_, ap, sym}
+use mathlib.Core.Path.{_∙_, ap}
 use Rattle.capi.specs.Flat.{twoOut}
 use borrow.Author.Needs.{needs}
 use Rattle.capi.proofs.book_delivery.Statement.{statement}
@@ -8,22 +8,22 @@ use Rattle.capi.proofs.book_delivery.Lts as lts
 use Rattle.capi.proofs.delivery_out.Reads as delivery-out-reads
 use Rattle.delivery.proofs.delivery.Reads as delivery-reads
 
--- src/lib.rt:106:9
 delivery-requires : tie.Need-delivery-requires
 delivery-requires c κs = search needs
 
--- src/lib.rt:108:12
 delivery-out-requires : tie.Need-delivery-out-requires
 delivery-out-requires c κs = search needs
 
--- src/lib.rt:89:1
 same-length : tie.Need-same-length
 same-length c = search needs
 
--- src/lib.rt:89:1
 returns : tie.Need-returns
 returns c =
-    (c .before .delivery-out .ensures ∙ ap twoOut (c .before .before .before .delivery .ensures .0), (c .before .before .before .delivery .ensures .1 .0, c .before .before .before .delivery .ensures .1 .1))
+    record {
+      answers = c .before .delivery-out .ensures ∙ ap twoOut (c .before .before .before .delivery .ensures .says);
+      numbers = c .before .before .before .delivery .ensures .orders;
+      leaves = c .before .before .before .delivery .ensures .leaves;
+    }
 
 pub book-delivery-spec : {M : Type 1} → statement M
 book-delivery-spec =

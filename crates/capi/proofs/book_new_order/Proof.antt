@@ -43,17 +43,18 @@ use Rattle.model.specs.declared.Line.{Line}
 use Rattle.model.specs.declared.NewOrder.{NewOrder}
 use Rattle.model.specs.declared.NewOrderAnswer.{NewOrderAnswer}
 use Rattle.model.specs.Answer.{newOrderSays}
-use Rattle.model.specs.NewOrder.{newOrderAnswer, newOrderBook}
 use Rattle.model.proofs.Line as T
 use Rattle.model.proofs.NewOrder as Q
 use Rattle.model.proofs.NewOrder.Laws as Q′
 use Rattle.model.proofs.NewOrderAnswer as R
 use Rattle.model.proofs.NewOrderAnswer.Laws as R′
+use Rattle.model.specs.Contracts.{NewOrderCall}
 use Rattle.new_order.proofs.new_order as new-order
 use Rattle.new_order.proofs.new_order.Symbol as new-order-def
 use Rattle.new_order.proofs.new_order.Symbol.{name as #new_order·new-order}
 use Rattle.new_order.proofs.new_order.Met as new-order-thm
 use Rattle.capi.specs.Flat.{twoOut, newOrderOf}
+use Rattle.capi.specs.Calls.{NewOrderC}
 use Rattle.capi.proofs.put_new_order as put
 use Rattle.capi.proofs.put_new_order.Symbol as put-def
 use Rattle.capi.proofs.put_new_order.Symbol.{name as #capi·put-new-order}
@@ -164,10 +165,10 @@ module _ {M : Type 1} (𝓤 : URA M) (H : Heap 𝓤) (A : Atoms 𝓤) (W : Given
 
   -- what `new_order` ensures, at its last list, and what is to be said
   abbrev Said : NewOrderAnswer → List ℤ → Type 0
-  Said m ns = (newOrderSays (m .outcome) ≡ newOrderAnswer (x .now) (y .now) order (s .now)) × (ns ≡ newOrderBook (x .now) (y .now) order (s .now))
+  Said m ns = NewOrderCall (x .now) (y .now) order (s .now) m ns
 
   abbrev Says : List ℤ → List ℕ → Type 0
-  Says ns os = (os ≡ twoOut (newOrderAnswer (x .now) (y .now) order (s .now))) × (ns ≡ newOrderBook (x .now) (y .now) order (s .now))
+  Says ns os = NewOrderC (x .now) (y .now) order (s .now) os ns
 
   abbrev Left : List ℤ → List ℕ → List (Item 𝓤)
   Left ns os = Toks ∷ (‵ (flft κ‴ q‴) ⊛ ‵ ftrue) ∷ ‵ (finally i64 (x .name) ns) ∷ ‵ Names ∷ ‵ Shr ∷ ‵ (fres (z .name) (Array u64 4 .coded .code os)) ∷ []
@@ -223,7 +224,7 @@ module _ {M : Type 1} (𝓤 : URA M) (H : Heap 𝓤) (A : Atoms 𝓤) (W : Given
         assigns ! (of-opd ! (unit-lit !)) (from ! (stop !)) (init ! 36 refl (tt, tt)) $
         returns ! (look ! 36 refl) $ forget ! 8 refl $ forget ! 10 refl $ forget ! 12 refl $ forget ! 14 refl $ forget ! 16 refl $ forget ! 18 refl $ forget ! 20 refl $ forget ! 22 refl $ forget ! 24 refl $ forget ! 26 refl $ forget ! 28 refl $ forget ! 30 refl $ forget ! 32 refl $ forget ! 34 refl $ forget ! 36 refl $
         move ! (36 ∷ 37 ∷ []) $ free1 ! $ move ! (34 ∷ 35 ∷ []) $ free1 ! $ move ! (32 ∷ 33 ∷ []) $ free1 ! $ move ! (30 ∷ 31 ∷ []) $ free1 ! $ move ! (28 ∷ 29 ∷ []) $ free1 ! $ move ! (26 ∷ 27 ∷ []) $ free1 ! $ move ! (24 ∷ 25 ∷ []) $ free1 ! $ move ! (22 ∷ 23 ∷ []) $ free1 ! $ move ! (20 ∷ 21 ∷ []) $ free1 ! $ move ! (18 ∷ 19 ∷ []) $ free1 ! $ move ! (16 ∷ 17 ∷ []) $ free1 ! $ move ! (14 ∷ 15 ∷ []) $ free1 ! $ move ! (12 ∷ 13 ∷ []) $ free1 ! $ move ! (10 ∷ 11 ∷ []) $ free1 ! $ move ! (8 ∷ 9 ∷ []) $ free1 ! $ free0 ! $
-        keep ! (3 ∷ 0 ∷ 4 ∷ 6 ∷ 7 ∷ 1 ∷ []) $ by ! (exits (ns .0) (os .0) (e′ ∙ ap twoOut (e .0), e .1) l)))))))))))))))))))))))))))
+        keep ! (3 ∷ 0 ∷ 4 ∷ 6 ∷ 7 ∷ 1 ∷ []) $ by ! (exits (ns .0) (os .0) (record { answers = e′ ∙ ap twoOut (e .says); leaves = e .leaves }) l)))))))))))))))))))))))))))
 
 module _ {M : Type 1} (𝓤 : URA M) (H : Heap 𝓤) (A : Atoms 𝓤) (W : Given 𝓤 H A) (mem : Memory → SProp 𝓤) (run : Routine → Fun 𝓤) where
   book-walks : (C : Calls 𝓤 H) (Λ : Loops 𝓤 H) → FmC 𝓤 H (W .laws) C → Triple 𝓤 (C #new_order·new-order) (Ordered 𝓤 H A mem run) → Triple 𝓤 (C #capi·put-new-order) (Put 𝓤 H A mem run)

@@ -1,4 +1,4 @@
-use mathlib.Core.Path.{_∙_, ap, sym}
+use mathlib.Core.Path.{_∙_, ap}
 use Rattle.capi.specs.Flat.{bareOut}
 use borrow.Author.Needs.{needs}
 use Rattle.capi.proofs.book_opening.Statement.{statement}
@@ -8,18 +8,15 @@ use Rattle.capi.proofs.book_opening.Lts as lts
 use Rattle.capi.proofs.opening_out.Reads as opening-out-reads
 use Rattle.opening.proofs.opening.Reads as opening-reads
 
--- src/lib.rt:53:9
 opening-requires : tie.Need-opening-requires
 opening-requires c κs = search needs
 
--- src/lib.rt:55:12
 opening-out-requires : tie.Need-opening-out-requires
 opening-out-requires c κs = search needs
 
--- src/lib.rt:49:1
 returns : tie.Need-returns
 returns c =
-    c .opening-out .ensures ∙ ap bareOut (c .before .opening .ensures)
+    record { answers = c .opening-out .ensures ∙ ap bareOut (c .before .opening .ensures .says) }
 
 pub book-opening-spec : {M : Type 1} → statement M
 book-opening-spec = tie.close (tie.spec opening-requires opening-out-requires returns)

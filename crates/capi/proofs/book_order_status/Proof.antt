@@ -14,26 +14,26 @@ use Rattle.capi.proofs.status_balance.Reads as status-balance-reads
 use Rattle.capi.proofs.status_out.Reads as status-out-reads
 use Rattle.order_status.proofs.status_shown.Reads as status-shown-reads
 
--- src/lib.rt:223:9
 selection-requires : tie.Need-selection-requires
 selection-requires c κs = search needs
 
--- src/lib.rt:224:9
 status-shown-requires : tie.Need-status-shown-requires
 status-shown-requires c κs = search needs
 
--- src/lib.rt:227:12
 status-out-requires : tie.Need-status-out-requires
 status-out-requires c κs = search needs
 
--- src/lib.rt:228:16
 status-balance-requires : tie.Need-status-balance-requires
 status-balance-requires c κs = search needs
 
--- src/lib.rt:205:1
 returns : tie.Need-returns
 returns c =
-    rw (← c .before .before .before .before .selection .ensures) (ap (λ (l : List ℕ). take 6 l) (c .before .status-out .ensures) ∙ ap (λ (a : Answer). take 6 (statusOut a 0 0)) (c .before .before .before .status-shown .ensures .0), (c .status-balance .ensures ∙ ap balanceOut (c .before .before .before .status-shown .ensures .0), (rw (c .before .status-out .ensures) (c .before .before .before .status-shown .ensures .1 .0), rw (c .before .status-out .ensures) (c .before .before .before .status-shown .ensures .1 .1))))
+    rw (← c .before .before .before .before .selection .ensures) (record {
+      answers = ap (λ (l : List ℕ). take 6 l) (c .before .status-out .ensures) ∙ ap (λ (a : Answer). take 6 (statusOut a 0 0)) (c .before .before .before .status-shown .ensures .says);
+      balances = c .status-balance .ensures ∙ ap balanceOut (c .before .before .before .status-shown .ensures .says);
+      within = rw (c .before .status-out .ensures) (c .before .before .before .status-shown .ensures .within);
+      shows = rw (c .before .status-out .ensures) (c .before .before .before .status-shown .ensures .shows);
+    })
 
 pub book-order-status-spec : {M : Type 1} → statement M
 book-order-status-spec =

@@ -7,18 +7,21 @@ use Rattle.capi.proofs.book_read_line.Lts as lts
 use Rattle.capi.proofs.read_out.Reads as read-out-reads
 use Rattle.lines.proofs.read_line.Reads as read-line-reads
 
--- src/lib.rt:412:9
 read-line-requires : tie.Need-read-line-requires
 read-line-requires c κs = search needs
 
--- src/lib.rt:416:12
 read-out-requires : tie.Need-read-out-requires
 read-out-requires c κs = search needs
 
--- src/lib.rt:401:1
 returns : tie.Need-returns
 returns c =
-    rw (← c .before .before .before .before .before .before .before .read-line .ensures) (c .before .before .before .before .read-out .ensures, (refl, (refl, (refl, refl))))
+    rw (← c .before .before .before .before .before .before .before .read-line .ensures) (record {
+      answers = c .before .before .before .before .read-out .ensures;
+      items-are = refl;
+      supplies-are = refl;
+      quantities-are = refl;
+      name-is = refl;
+    })
 
 pub book-read-line-spec : {M : Type 1} → statement M
 book-read-line-spec = tie.close (tie.spec read-line-requires read-out-requires returns)

@@ -8,34 +8,27 @@ use Rattle.capi.proofs.book_write_new_order.Lts as lts
 use Rattle.capi.proofs.write_out.Reads as write-out-reads
 use Rattle.writing.proofs.write_line.Reads as write-line-reads
 
--- src/lib.rt:459:74
 sub-write-line : tie.Need-sub-write-line
 sub-write-line c = search needs
 
--- src/lib.rt:459:74
 part-write-line-start : tie.Need-part-write-line-start
 part-write-line-start c = search needs
 
--- src/lib.rt:459:74
 part-write-line-end : tie.Need-part-write-line-end
 part-write-line-end c = search needs
 
--- src/lib.rt:459:9
 write-line-requires : tie.Need-write-line-requires
 write-line-requires c κs = search needs
 
--- src/lib.rt:461:12
 write-out-requires : tie.Need-write-out-requires
 write-out-requires c κs = search needs
 
--- src/lib.rt:438:1
 same-length : tie.Need-same-length
 same-length c = search needs
 
--- src/lib.rt:438:1
 returns : tie.Need-returns
 returns c =
-    (c .write-out .ensures ∙ ap oneOut (c .before .before .before .write-line .ensures .0), c .before .before .before .write-line .ensures .1)
+    record { answers = c .write-out .ensures ∙ ap oneOut (c .before .before .before .write-line .ensures .says); leaves = c .before .before .before .write-line .ensures .leaves }
 
 pub book-write-new-order-spec : {M : Type 1} → statement M
 book-write-new-order-spec =

@@ -6,19 +6,15 @@ use Rattle.capi.proofs.book_write_order_status.Lts as lts
 use Rattle.capi.proofs.selection.Reads as selection-reads
 use Rattle.capi.proofs.write_bare.Reads as write-bare-reads
 
--- src/lib.rt:542:9
 selection-requires : tie.Need-selection-requires
 selection-requires c κs = search needs
 
--- src/lib.rt:544:12
 write-bare-requires : tie.Need-write-bare-requires
 write-bare-requires c κs = search needs
 
--- src/lib.rt:526:1
 same-length : tie.Need-same-length
 same-length c = search needs
 
--- src/lib.rt:526:1
 returns : tie.Need-returns
 returns c =
     rw (← c .before .before .before .before .selection .ensures) (c .before .before .write-bare .ensures)

@@ -5,21 +5,17 @@ use Rattle.capi.proofs.delivery_out.Tie as tie
 use Rattle.capi.proofs.delivery_out.Reads as reads
 use Rattle.capi.proofs.delivery_out.Lts as lts
 
--- src/lib.rt:83:36
 enum-known-o : tie.Need-enum-known-o
 enum-known-o c = search needs
 
--- src/lib.rt:84:34
 enum-known-o-2 : tie.Need-enum-known-o-2
 enum-known-o-2 c = search needs
 
--- src/lib.rt:79:1
 returns : tie.Need-returns
 unfolding nat
 returns c =
     rw (c .before .o .given .1)
 
--- src/lib.rt:79:1
 returns-2 : tie.Need-returns-2
 unfolding nat
 returns-2 c =

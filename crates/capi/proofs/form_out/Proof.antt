@@ -10,67 +10,52 @@ use Rattle.capi.proofs.order_form.Reads as order-form-reads
 use Rattle.capi.proofs.payment_form.Reads as payment-form-reads
 use Rattle.capi.proofs.status_form.Reads as status-form-reads
 
--- src/lib.rt:422:24
 enum-known-form : tie.Need-enum-known-form
 enum-known-form c = search needs
 
--- src/lib.rt:422:30
 order-form-requires : tie.Need-order-form-requires
 order-form-requires c κs = search needs
 
--- src/lib.rt:423:23
 enum-known-form-2 : tie.Need-enum-known-form-2
 enum-known-form-2 c = search needs
 
--- src/lib.rt:423:34
 payment-form-requires : tie.Need-payment-form-requires
 payment-form-requires c κs = search needs
 
--- src/lib.rt:424:24
 enum-known-form-3 : tie.Need-enum-known-form-3
 enum-known-form-3 c = search needs
 
--- src/lib.rt:424:30
 delivery-form-requires : tie.Need-delivery-form-requires
 delivery-form-requires c κs = search needs
 
--- src/lib.rt:425:27
 enum-known-form-4 : tie.Need-enum-known-form-4
 enum-known-form-4 c = search needs
 
--- src/lib.rt:425:38
 status-form-requires : tie.Need-status-form-requires
 status-form-requires c κs = search needs
 
--- src/lib.rt:426:26
 enum-known-form-5 : tie.Need-enum-known-form-5
 enum-known-form-5 c = search needs
 
--- src/lib.rt:426:32
 level-form-requires : tie.Need-level-form-requires
 level-form-requires c κs = search needs
 
--- src/lib.rt:418:1
 returns : tie.Need-returns
 returns c =
     c .order-form .ensures ∙ rw (c .before .before .form .given .1)
 
--- src/lib.rt:418:1
 returns-2 : tie.Need-returns-2
 returns-2 c =
     c .payment-form .ensures ∙ rw (c .before .before .form2 .given .1)
 
--- src/lib.rt:418:1
 returns-3 : tie.Need-returns-3
 returns-3 c =
     c .delivery-form .ensures ∙ rw (c .before .before .form3 .given .1)
 
--- src/lib.rt:418:1
 returns-4 : tie.Need-returns-4
 returns-4 c =
     c .status-form .ensures ∙ rw (c .before .before .form4 .given .1)
 
--- src/lib.rt:418:1
 returns-5 : tie.Need-returns-5
 returns-5 c =
     c .level-form .ensures ∙ rw (c .before .before .form5 .given .1)

@@ -4,20 +4,16 @@ use Rattle.capi.proofs.opening_out.Tie as tie
 use Rattle.capi.proofs.opening_out.Reads as reads
 use Rattle.capi.proofs.opening_out.Lts as lts
 
--- src/lib.rt:43:37
 enum-told : tie.Need-enum-told
 enum-told c = search needs
 
--- src/lib.rt:44:33
 enum-known-o : tie.Need-enum-known-o
 enum-known-o c = search needs
 
--- src/lib.rt:39:1
 returns : tie.Need-returns
 returns c =
     rw (c .enum-told .given .1)
 
--- src/lib.rt:39:1
 returns-2 : tie.Need-returns-2
 returns-2 c =
     rw (c .before .o .given .1)

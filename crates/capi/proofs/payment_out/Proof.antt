@@ -5,21 +5,17 @@ use Rattle.capi.proofs.payment_out.Tie as tie
 use Rattle.capi.proofs.payment_out.Reads as reads
 use Rattle.capi.proofs.payment_out.Lts as lts
 
--- src/lib.rt:26:35
 enum-known-o : tie.Need-enum-known-o
 enum-known-o c = search needs
 
--- src/lib.rt:27:33
 enum-known-o-2 : tie.Need-enum-known-o-2
 enum-known-o-2 c = search needs
 
--- src/lib.rt:22:1
 returns : tie.Need-returns
 unfolding nat
 returns c =
     rw (c .before .o .given .1)
 
--- src/lib.rt:22:1
 returns-2 : tie.Need-returns-2
 unfolding nat
 returns-2 c =

@@ -6,24 +6,19 @@ use Rattle.capi.proofs.read_out.Reads as reads
 use Rattle.capi.proofs.read_out.Lts as lts
 use Rattle.capi.proofs.form_out.Reads as form-out-reads
 
--- src/lib.rt:395:30
 enum-known-o : tie.Need-enum-known-o
 enum-known-o c = search needs
 
--- src/lib.rt:395:39
 form-out-requires : tie.Need-form-out-requires
 form-out-requires c κs = search needs
 
--- src/lib.rt:396:30
 enum-known-o-2 : tie.Need-enum-known-o-2
 enum-known-o-2 c = search needs
 
--- src/lib.rt:391:1
 returns : tie.Need-returns
 returns c =
     c .form-out .ensures ∙ rw (c .before .before .o .given .1)
 
--- src/lib.rt:391:1
 returns-2 : tie.Need-returns-2
 returns-2 c =
     rw (c .before .o2 .given .1)

@@ -4,11 +4,9 @@ use Rattle.capi.proofs.selection.Tie as tie
 use Rattle.capi.proofs.selection.Reads as reads
 use Rattle.capi.proofs.selection.Lts as lts
 
--- src/lib.rt:16:9
 returns : tie.Need-returns
 returns c = search needs
 
--- src/lib.rt:12:1
 returns-2 : tie.Need-returns-2
 returns-2 c =
     rw (c .if1 .left)

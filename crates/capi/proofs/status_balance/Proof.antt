@@ -5,20 +5,16 @@ use Rattle.capi.proofs.status_balance.Tie as tie
 use Rattle.capi.proofs.status_balance.Reads as reads
 use Rattle.capi.proofs.status_balance.Lts as lts
 
--- src/lib.rt:174:34
 enum-known-o : tie.Need-enum-known-o
 enum-known-o c = search needs
 
--- src/lib.rt:175:38
 enum-told : tie.Need-enum-told
 enum-told c = search needs
 
--- src/lib.rt:170:1
 returns : tie.Need-returns
 returns c =
     rw (held (c .struct-told .given .1 .0 .1), c .before .before .o .given .1)
 
--- src/lib.rt:170:1
 returns-2 : tie.Need-returns-2
 returns-2 c =
     rw (c .enum-told .given .1)

@@ -6,15 +6,12 @@ use Rattle.capi.proofs.status_form.Lts as lts
 use Rattle.capi.proofs.named_out.Reads as named-out-reads
 use Rattle.capi.proofs.number_out.Reads as number-out-reads
 
--- src/lib.rt:316:9
 named-out-requires : tie.Need-named-out-requires
 named-out-requires c κs = search needs
 
--- src/lib.rt:317:9
 number-out-requires : tie.Need-number-out-requires
 number-out-requires c κs = search needs
 
--- src/lib.rt:313:1
 returns : tie.Need-returns
 returns c =
     rw (c .before .named-out .ensures, c .number-out .ensures)

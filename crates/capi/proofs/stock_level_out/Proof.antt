@@ -5,21 +5,17 @@ use Rattle.capi.proofs.stock_level_out.Tie as tie
 use Rattle.capi.proofs.stock_level_out.Reads as reads
 use Rattle.capi.proofs.stock_level_out.Lts as lts
 
--- src/lib.rt:213:38
 enum-known-o : tie.Need-enum-known-o
 enum-known-o c = search needs
 
--- src/lib.rt:214:36
 enum-known-o-2 : tie.Need-enum-known-o-2
 enum-known-o-2 c = search needs
 
--- src/lib.rt:209:1
 returns : tie.Need-returns
 unfolding nat
 returns c =
     rw (c .before .o .given .1)
 
--- src/lib.rt:209:1
 returns-2 : tie.Need-returns-2
 unfolding nat
 returns-2 c =

@@ -9,35 +9,28 @@ use Rattle.capi.proofs.write_bare.Lts as lts
 use Rattle.capi.proofs.write_out.Reads as write-out-reads
 use Rattle.writing.proofs.write_line.Reads as write-line-reads
 
--- src/lib.rt:469:17
 sub-empty : tie.Need-sub-empty
 sub-empty c = search needs
 
--- src/lib.rt:469:17
 part-empty-start : tie.Need-part-empty-start
 part-empty-start c = search needs
 
--- src/lib.rt:469:17
 part-empty-end : tie.Need-part-empty-end
 part-empty-end c = search needs
 
--- src/lib.rt:470:9
 write-line-requires : tie.Need-write-line-requires
 write-line-requires c κs = search needs
 
--- src/lib.rt:472:5
 write-out-requires : tie.Need-write-out-requires
 write-out-requires c κs = search needs
 
--- src/lib.rt:465:1
 same-length : tie.Need-same-length
 same-length c = search needs
 
--- src/lib.rt:465:1
 returns : tie.Need-returns
 unfolding linesOf
 returns c =
-    (c .write-out .ensures ∙ ap oneOut (c .before .before .before .write-line .ensures .0), c .before .before .before .write-line .ensures .1)
+    record { answers = c .write-out .ensures ∙ ap oneOut (c .before .before .before .write-line .ensures .says); leaves = c .before .before .before .write-line .ensures .leaves }
 
 pub write-bare-spec : {M : Type 1} → statement M
 write-bare-spec =

@@ -8,19 +8,15 @@ use Rattle.cells.proofs.one_to.Reads as reads
 use Rattle.cells.proofs.one_to.Lts as lts
 use Rattle.cells.proofs.bits_of.Reads as bits-of-reads
 
--- src/lib.rt:43:21
 mul-bits-of : tie.Need-mul-bits-of
 mul-bits-of c = search needs
 
--- src/lib.rt:43:21
 shared-slice-copy-out-bits-of : tie.Need-shared-slice-copy-out-bits-of
 shared-slice-copy-out-bits-of c = search needs
 
--- src/lib.rt:43:9
 bits-of-requires : tie.Need-bits-of-requires
 bits-of-requires c κs = search needs
 
--- src/lib.rt:39:1
 returns : tie.Need-returns
 unfolding cell
 returns c =

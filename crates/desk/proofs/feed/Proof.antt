@@ -1,81 +1,88 @@
-use Rattle.desk.proofs.Blocks.{not-open}
-use lib.Dec.{eqb}
-use lib.ListN.{getD}
-use borrow.Author.Needs.{needs}
-use mathlib.Core.Path.{_≡_, refl, sym, _∙_}
-use Prim.Native.Nat.{_-_, _≤_}
+use lib.ListN.{length, take}
+use borrow.Author.Tests.{not-true, not-false}
+use Rattle.model.specs.Request.{lent}
+use Rattle.desk.proofs.Telling.{written-part}
+use Rattle.desk.proofs.Blocks.{FedUpTo, none-fed, line-fed, block-fed, closed-fed, left-line}
+use Prim.Native.Nat.{_-_}
+use mathlib.Core.Path.{_≡_}
 use native.Mathlib.Omega.{arith}
-use lib.ListN.{length, take, drop}
-use Rattle.desk.specs.Input.{bookAfter, lineAfter}
-use Rattle.desk.proofs.Blocks.{book-turn, line-turn, book-end, line-end, shorter}
+use borrow.Author.Needs.{needs}
 use Rattle.desk.proofs.feed.Statement.{statement}
 use Rattle.desk.proofs.feed.Tie as tie
 use Rattle.desk.proofs.feed.Reads as reads
 use Rattle.desk.proofs.feed.Lts as lts
-use Rattle.desk.proofs.end_line.Reads as end-line-reads
-use Rattle.desk.proofs.keep.Reads as keep-reads
+use Rattle.desk.proofs.cut.Reads as cut-reads
+use Rattle.desk.proofs.step.Reads as step-reads
+use Rattle.io.proofs.write_all.Reads as write-all-reads
 
 abbrev Inv-loop : tie.InvT-loop
-Inv-loop b₀ names line₀ len block n₀ i₀ b line n i = (i ≤ length block) × ((length b ≡ length b₀) × ((length line ≡ 1024) × ((n ≤ 1024) × ((bookAfter b₀ names (take len line₀) block ≡ bookAfter b names (take n line) (drop i block)) × (lineAfter (take len line₀) block ≡ lineAfter (take n line) (drop i block))))))
+Inv-loop b₀ names line₀ len block out₀ n₀ at₀ b line out n at = (length b ≡ length b₀) × ((length out ≡ 2048) × FedUpTo (lent b₀ names) (take len line₀) block (lent b names) line n at)
 
 abbrev μ-loop : tie.MeasureT-loop
-μ-loop b₀ names line₀ len block n₀ i₀ b line n i = length block - i
+μ-loop b₀ names line₀ len block out₀ n₀ at₀ b line out n at = length block - at
 
--- src/lib.rt:206:5
 loop-holds : tie.Need-loop-holds Inv-loop μ-loop
 loop-holds c =
-    (search needs, (search needs, (search needs, (search needs, (refl, refl)))))
+    (search needs, (search needs, none-fed _ _ _ _ ((c .before .before .before .pre))))
 
--- src/lib.rt:207:17
-shared-slice-read-x : tie.Need-shared-slice-read-x Inv-loop μ-loop
-shared-slice-read-x c = search needs
+cut-requires : tie.Need-cut-requires Inv-loop μ-loop
+cut-requires c κs = search needs
 
--- src/lib.rt:208:9
-keep-requires : tie.Need-keep-requires Inv-loop μ-loop
-keep-requires c κs = search needs
-
--- src/lib.rt:209:13
-end-line-requires : tie.Need-end-line-requires Inv-loop μ-loop
-end-line-requires c κs = search needs
-
--- src/lib.rt:213:13
 same-length : tie.Need-same-length Inv-loop μ-loop
 same-length c = search needs
 
--- src/lib.rt:213:13
 same-length-2 : tie.Need-same-length-2 Inv-loop μ-loop
 same-length-2 c = search needs
 
--- src/lib.rt:213:13
 returns : tie.Need-returns Inv-loop μ-loop
 returns c =
-    (omega arith, not-open)
+    block-fed _ _ _ _ _ _ _ _ _ _ _ (c .before .before .before .before .before .before .loop .inv .1 .1) (c .before .before .before .before .cut .ensures) (not-true (c .before .before .before .before .cut .result .ended) (c .if1 .taken))
 
--- src/lib.rt:218:9
-add-i : tie.Need-add-i Inv-loop μ-loop
-add-i c = search needs
+sub-step : tie.Need-sub-step Inv-loop μ-loop
+sub-step c = search needs
 
--- src/lib.rt:206:5
-loop-less : tie.Need-loop-less Inv-loop μ-loop
-loop-less c = search needs
+part-step-start : tie.Need-part-step-start Inv-loop μ-loop
+part-step-start c = search needs
 
--- src/lib.rt:206:5
-loop-again : tie.Need-loop-again Inv-loop μ-loop
-loop-again c =
-    (search needs, (search needs, (search needs, (shorter (eqb (getD (c .before .before .before .before .before .before .before .before .before .before .before .before .before .before .before .args .block .now) (c .before .before .before .before .before .before .before .before .before .before .before .loop .i) 0) 10) (c .before .before .before .before .before .before .before .keep .result) (c .before .before .end-line .result .len) (c .before .before .before .before .before .before .before .keep .ensures .1) (c .before .before .end-line .ensures .0), (c .before .before .before .before .before .before .before .before .before .before .before .loop .inv .1 .1 .1 .1 .0 ∙ book-turn (c .before .before .before .before .before .before .before .before .before .before .before .before .before .before .before .args .names .now) (c .before .before .before .before .before .before .before .before .before .before .before .before .before .before .before .args .block .now) (c .before .before .before .before .before .before .before .before .before .before .before .loop .i) (c .before .before .before .before .before .before .before .before .before .before .loop-test .taken) (c .before .before .before .before .before .before .before .before .before .before .before .loop .b) (c .before .before .end-line .last .0) (take (c .before .before .before .before .before .before .before .before .before .before .before .loop .n) (c .before .before .before .before .before .before .before .before .before .before .before .loop .line)) (c .before .before .before .before .before .before .before .keep .last .0) (c .before .before .before .before .before .before .before .keep .result) (c .before .before .end-line .result .len) (c .before .before .before .before .before .before .before .keep .ensures .0) (c .before .before .end-line .ensures .0) (c .before .before .end-line .ensures .1), c .before .before .before .before .before .before .before .before .before .before .before .loop .inv .1 .1 .1 .1 .1 ∙ line-turn (c .before .before .before .before .before .before .before .before .before .before .before .before .before .before .before .args .names .now) (c .before .before .before .before .before .before .before .before .before .before .before .before .before .before .before .args .block .now) (c .before .before .before .before .before .before .before .before .before .before .before .loop .i) (c .before .before .before .before .before .before .before .before .before .before .loop-test .taken) (take (c .before .before .before .before .before .before .before .before .before .before .before .loop .n) (c .before .before .before .before .before .before .before .before .before .before .before .loop .line)) (c .before .before .before .before .before .before .before .keep .last .0) (c .before .before .before .before .before .before .before .keep .result) (c .before .before .end-line .result .len) (c .before .before .before .before .before .before .before .keep .ensures .0) (c .before .before .end-line .ensures .0))))))
+part-step-end : tie.Need-part-step-end Inv-loop μ-loop
+part-step-end c = search needs
 
--- src/lib.rt:200:1
+slice-aggregate-step : tie.Need-slice-aggregate-step Inv-loop μ-loop
+slice-aggregate-step c = search needs
+
+step-requires : tie.Need-step-requires Inv-loop μ-loop
+step-requires c κs = search needs
+
+sub-write-all : tie.Need-sub-write-all Inv-loop μ-loop
+sub-write-all c = search needs
+
+part-write-all-start : tie.Need-part-write-all-start Inv-loop μ-loop
+part-write-all-start c = search needs
+
+part-write-all-end : tie.Need-part-write-all-end Inv-loop μ-loop
+part-write-all-end c =
+    written-part _ _ _ _ _ _ (c .before .before .before .step .ensures)
+
+write-all-requires : tie.Need-write-all-requires Inv-loop μ-loop
+write-all-requires c κs = search needs
+
 same-length-3 : tie.Need-same-length-3 Inv-loop μ-loop
 same-length-3 c = search needs
 
--- src/lib.rt:200:1
 same-length-4 : tie.Need-same-length-4 Inv-loop μ-loop
 same-length-4 c = search needs
 
--- src/lib.rt:200:1
 returns-2 : tie.Need-returns-2 Inv-loop μ-loop
 returns-2 c =
-    (c .before .loop .inv .1 .1 .1 .0, (λ e. (sym (c .before .loop .inv .1 .1 .1 .1 .0 ∙ book-end (c .before .loop .b) (c .before .before .before .before .before .args .names .now) (take (c .before .loop .n) (c .before .loop .line)) (c .before .before .before .before .before .args .block .now) (c .before .loop .i) (c .loop-test .left)), sym (c .before .loop .inv .1 .1 .1 .1 .1 ∙ line-end (take (c .before .loop .n) (c .before .loop .line)) (c .before .before .before .before .before .args .block .now) (c .before .loop .i) (c .loop-test .left)))))
+    closed-fed _ _ _ _ _ _ _ (line-fed _ _ _ _ _ _ _ _ _ _ _ (c .before .before .before .before .before .before .before .before .before .before .before .before .before .before .before .before .before .loop .inv .1 .1) (c .before .before .before .before .before .before .before .before .before .before .before .before .before .before .before .cut .ensures) _ (not-false (c .before .before .before .before .before .before .before .before .before .before .before .before .before .before .before .cut .result .ended) (c .before .before .before .before .before .before .before .before .before .before .before .if1 .left)) (left-line _ _ _ (c .before .before .before .before .before .before .before .before .before .before .before .before .before .before .before .cut .last .0) _ _ (c .before .before .before .before .before .before .before .before .before .before .before .before .before .before .before .cut .result .len) _ (c .before .before .before .before .before .before .before .before .before .before .before .before .before .before .before .before .before .loop .inv .1 .0) (c .before .before .before .before .before .before .step .ensures)) (search needs))
+
+loop-less : tie.Need-loop-less Inv-loop μ-loop
+loop-less c =
+    let h = rw (not-false (c .before .before .before .before .before .before .before .before .before .before .before .before .before .before .before .cut .result .ended) (c .before .before .before .before .before .before .before .before .before .before .before .if1 .left)) at (c .before .before .before .before .before .before .before .before .before .before .before .before .before .before .before .cut .ensures .onward) in omega (arith, h, c .before .before .before .before .before .before .before .before .before .before .before .before .before .before .before .cut .ensures .place)
+
+loop-again : tie.Need-loop-again Inv-loop μ-loop
+loop-again c =
+    (search needs, (search needs, line-fed _ _ _ _ _ _ _ _ _ _ _ (c .before .before .before .before .before .before .before .before .before .before .before .before .before .before .before .before .before .loop .inv .1 .1) (c .before .before .before .before .before .before .before .before .before .before .before .before .before .before .before .cut .ensures) _ (not-false (c .before .before .before .before .before .before .before .before .before .before .before .before .before .before .before .cut .result .ended) (c .before .before .before .before .before .before .before .before .before .before .before .if1 .left)) (left-line _ _ _ (c .before .before .before .before .before .before .before .before .before .before .before .before .before .before .before .cut .last .0) _ _ (c .before .before .before .before .before .before .before .before .before .before .before .before .before .before .before .cut .result .len) _ (c .before .before .before .before .before .before .before .before .before .before .before .before .before .before .before .before .before .loop .inv .1 .0) (c .before .before .before .before .before .before .step .ensures)) (search needs)))
 
 pub feed-spec : {M : Type 1} → statement M
 feed-spec =
@@ -84,15 +91,21 @@ feed-spec =
     Inv-loop
     μ-loop
     loop-holds
-    shared-slice-read-x
-    keep-requires
-    end-line-requires
+    cut-requires
     same-length
     same-length-2
     returns
-    add-i
-    loop-less
-    loop-again
+    sub-step
+    part-step-start
+    part-step-end
+    slice-aggregate-step
+    step-requires
+    sub-write-all
+    part-write-all-start
+    part-write-all-end
+    write-all-requires
     same-length-3
     same-length-4
-    returns-2)
+    returns-2
+    loop-less
+    loop-again)

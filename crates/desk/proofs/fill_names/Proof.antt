@@ -19,41 +19,32 @@ Inv-loop names₀ text i₀ names i = (i ≤ 640) × ((length names ≡ 640) × 
 abbrev μ-loop : tie.MeasureT-loop
 μ-loop names₀ text i₀ names i = 640 - i
 
--- src/lib.rt:74:16
 two-names-requires : tie.Need-two-names-requires Inv-loop μ-loop
 two-names-requires c κs = search needs
 
--- src/lib.rt:76:5
 loop-holds : tie.Need-loop-holds Inv-loop μ-loop
 loop-holds c =
     (search needs, (ap length ((c .before .before .pre)), (c .two-names .ensures, (ap length (c .two-names .ensures), (names-none _ _, (c .before .before .pre))))))
 
--- src/lib.rt:77:20
 array-read-names : tie.Need-array-read-names Inv-loop μ-loop
 array-read-names c = search needs
 
--- src/lib.rt:77:9
 slice-write-names : tie.Need-slice-write-names Inv-loop μ-loop
 slice-write-names c = search needs
 
--- src/lib.rt:78:9
 add-i : tie.Need-add-i Inv-loop μ-loop
 add-i c = search needs
 
--- src/lib.rt:76:5
 loop-less : tie.Need-loop-less Inv-loop μ-loop
 loop-less c = search needs
 
--- src/lib.rt:76:5
 loop-again : tie.Need-loop-again Inv-loop μ-loop
 loop-again c =
     (search needs, (simp length-set (c .before .loop .inv .1 .0), (c .before .loop .inv .1 .1 .0, (c .before .loop .inv .1 .1 .1 .0, (rw (names-step, ← c .before .loop .inv .1 .1 .1 .1 .0, ← c .before .loop .inv .1 .1 .0), c .before .loop .inv .1 .1 .1 .1 .1)))))
 
--- src/lib.rt:71:1
 same-length : tie.Need-same-length Inv-loop μ-loop
 same-length c = search needs
 
--- src/lib.rt:71:1
 returns : tie.Need-returns Inv-loop μ-loop
 returns c =
     let e : c .before .loop .i ≡ 640 = omega (arith, c .before .loop .inv .0, c .loop-test .left) in c .before .loop .inv .1 .1 .1 .1 .0 ∙ rw (e, c .before .loop .inv .1 .1 .1 .1 .1) names-filled

@@ -12,31 +12,25 @@ use Rattle.desk.proofs.fill_head.Reads as fill-head-reads
 use Rattle.desk.proofs.fill_prices.Reads as fill-prices-reads
 use Rattle.desk.proofs.fill_stocks.Reads as fill-stocks-reads
 
--- src/lib.rt:79:5
 fill-head-requires : tie.Need-fill-head-requires
 fill-head-requires c κs =
     let e : length (c .before .args .b .now) ≡ 3479 = ap length ((c .before .pre)) in omega (arith, e)
 
--- src/lib.rt:80:5
 fill-districts-requires : tie.Need-fill-districts-requires
 fill-districts-requires c κs =
     let e : length (c .before .before .before .before .args .b .now) ≡ 3479 = ap length ((c .before .before .before .before .pre)) in omega (arith, e, c .before .before .fill-head .kept .0)
 
--- src/lib.rt:81:5
 fill-prices-requires : tie.Need-fill-prices-requires
 fill-prices-requires c κs =
     let e : length (c .before .before .before .before .before .before .before .args .b .now) ≡ 3479 = ap length ((c .before .before .before .before .before .before .before .pre)) in omega (arith, e, c .before .before .before .before .before .fill-head .kept .0, c .before .before .fill-districts .kept .0)
 
--- src/lib.rt:82:5
 fill-stocks-requires : tie.Need-fill-stocks-requires
 fill-stocks-requires c κs =
     let e : length (c .before .before .before .before .before .before .before .before .before .before .args .b .now) ≡ 3479 = ap length ((c .before .before .before .before .before .before .before .before .before .before .pre)) in omega (arith, e, c .before .before .before .before .before .before .before .before .fill-head .kept .0, c .before .before .before .before .before .fill-districts .kept .0, c .before .before .fill-prices .kept .0)
 
--- src/lib.rt:75:1
 same-length : tie.Need-same-length
 same-length c = search needs
 
--- src/lib.rt:75:1
 returns : tie.Need-returns
 returns c =
     rw (c .before .fill-stocks .ensures, c .before .before .before .before .fill-prices .ensures, c .before .before .before .before .before .before .before .fill-districts .ensures, c .before .before .before .before .before .before .before .before .before .before .fill-head .ensures, (c .before .before .before .before .before .before .before .before .before .before .before .before .pre)) numbers-filled

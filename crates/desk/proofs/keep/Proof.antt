@@ -1,28 +1,24 @@
 use Rattle.desk.proofs.Blocks.{kept-more, kept-full}
+use native.Mathlib.Omega.{arith}
 use borrow.Author.Needs.{needs}
 use Rattle.desk.proofs.keep.Statement.{statement}
 use Rattle.desk.proofs.keep.Tie as tie
 use Rattle.desk.proofs.keep.Reads as reads
 use Rattle.desk.proofs.keep.Lts as lts
 
--- src/lib.rt:181:9
 slice-write-line : tie.Need-slice-write-line
 slice-write-line c = search needs
 
--- src/lib.rt:182:16
 add-result : tie.Need-add-result
 add-result c = search needs
 
--- src/lib.rt:182:9
 same-length : tie.Need-same-length
 same-length c = search needs
 
--- src/lib.rt:182:9
 returns : tie.Need-returns
 returns c =
-    (kept-more _ _ _ (c .if1 .taken) (c .before .pre .0), search needs)
+    (kept-more _ (c .before .args .n) _ (omega arith) (c .before .pre .0), search needs)
 
--- src/lib.rt:176:1
 returns-2 : tie.Need-returns-2
 returns-2 c =
     (kept-full _ _ _ (c .if1 .left) (c .before .pre .1) (c .before .pre .0), c .before .pre .1)

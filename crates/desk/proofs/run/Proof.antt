@@ -8,63 +8,49 @@ use Rattle.desk.proofs.fill_numbers.Reads as fill-numbers-reads
 use Rattle.desk.proofs.serve.Reads as serve-reads
 use Rattle.opening.proofs.opening.Reads as opening-reads
 
--- src/lib.rt:255:18
 slice-aggregate-fill-numbers : tie.Need-slice-aggregate-fill-numbers
 slice-aggregate-fill-numbers c = search needs
 
--- src/lib.rt:255:5
 fill-numbers-requires : tie.Need-fill-numbers-requires
 fill-numbers-requires c κs = search needs
 
--- src/lib.rt:256:16
 slice-aggregate-fill-names : tie.Need-slice-aggregate-fill-names
 slice-aggregate-fill-names c = search needs
 
--- src/lib.rt:256:5
 fill-names-requires : tie.Need-fill-names-requires
 fill-names-requires c κs = search needs
 
--- src/lib.rt:257:30
 slice-aggregate-opening : tie.Need-slice-aggregate-opening
 slice-aggregate-opening c = search needs
 
--- src/lib.rt:257:34
 slice-aggregate-opening-2 : tie.Need-slice-aggregate-opening-2
 slice-aggregate-opening-2 c = search needs
 
--- src/lib.rt:257:9
 opening-requires : tie.Need-opening-requires
 opening-requires c κs = search needs
 
--- src/lib.rt:261:19
 enum-told : tie.Need-enum-told
 enum-told c = search needs
 
--- src/lib.rt:261:19
 slice-aggregate-serve : tie.Need-slice-aggregate-serve
 slice-aggregate-serve c = search needs
 
--- src/lib.rt:261:27
 slice-aggregate-serve-2 : tie.Need-slice-aggregate-serve-2
 slice-aggregate-serve-2 c = search needs
 
--- src/lib.rt:261:13
 serve-requires : tie.Need-serve-requires
 serve-requires c κs = search needs
 
--- src/lib.rt:264:39
 enum-told-2 : tie.Need-enum-told-2
 enum-told-2 c = search needs
 
--- src/lib.rt:250:1
 returns : tie.Need-returns
 returns c =
-    rw (← c .before .before .before .before .before .before .before .before .before .before .before .before .before .fill-numbers .ensures, ← c .before .before .before .before .before .before .before .before .before .before .fill-names .ensures, ← c .before .before .before .before .before .before .opening .ensures, c .before .before .before .before .enum-told .given .1)
+    record { opened = rw (← c .before .before .before .before .before .before .before .before .before .before .before .before .before .fill-numbers .ensures, ← c .before .before .before .before .before .before .before .before .before .before .fill-names .ensures, ← c .before .before .before .before .before .before .opening .ensures .says, c .before .before .before .before .enum-told .given .1) }
 
--- src/lib.rt:250:1
 returns-2 : tie.Need-returns-2
 returns-2 c =
-    rw (← c .before .before .before .before .before .before .before .before .before .fill-numbers .ensures, ← c .before .before .before .before .before .before .fill-names .ensures, ← c .before .before .opening .ensures, c .enum-told2 .given .1)
+    record { opened = rw (← c .before .before .before .before .before .before .before .before .before .fill-numbers .ensures, ← c .before .before .before .before .before .before .fill-names .ensures, ← c .before .before .opening .ensures .says, c .enum-told2 .given .1) }
 
 pub run-spec : {M : Type 1} → statement M
 run-spec =

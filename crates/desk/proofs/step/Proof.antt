@@ -1,61 +1,111 @@
 use mathlib.Core.Path.{refl}
-use Rattle.desk.proofs.Telling.{step-read, step-held, step-none, told-read, told-none, told-nothing}
+use Rattle.desk.proofs.Telling.{stepped-nothing, stepped-none, stepped-read, read-held}
+use native.Mathlib.Omega.{arith}
 use borrow.Author.Needs.{needs}
 use Rattle.desk.proofs.step.Statement.{statement}
 use Rattle.desk.proofs.step.Tie as tie
 use Rattle.desk.proofs.step.Reads as reads
 use Rattle.desk.proofs.step.Lts as lts
+use Rattle.answers.proofs.write_answer.Reads as write-answer-reads
 use Rattle.answers.proofs.write_no_form.Reads as write-no-form-reads
-use Rattle.desk.proofs.answer.Reads as answer-reads
+use Rattle.engine.proofs.carry_out.Reads as carry-out-reads
 use Rattle.lines.proofs.read_line.Reads as read-line-reads
 
--- src/lib.rt:122:9
 returns : tie.Need-returns
 returns c =
-    told-nothing _ _ _ _ (c .if1 .taken)
+    stepped-nothing _ _ _ (c .if1 .taken)
 
--- src/lib.rt:124:9
 read-line-requires : tie.Need-read-line-requires
 read-line-requires c κs = search needs
 
--- src/lib.rt:127:30
 enum-known-o : tie.Need-enum-known-o
 enum-known-o c = search needs
 
--- src/lib.rt:130:13
-answer-requires : tie.Need-answer-requires
-answer-requires c κs =
-    (c .before .before .before .before .before .before .before .before .if1 .left, step-held (c .before .before .before .before .before .before .before .before .before .before .before .before .args .line .now) (c .before .before .before .before .before .o .given .0 .0) _ (c .before .before .before .before .before .before .before .read-line .ensures))
+sub-carry-out : tie.Need-sub-carry-out
+sub-carry-out c = search needs
 
--- src/lib.rt:132:59
+part-carry-out-start : tie.Need-part-carry-out-start
+part-carry-out-start c = search needs
+
+part-carry-out-end : tie.Need-part-carry-out-end
+part-carry-out-end c =
+    omega (arith, read-held (c .before .before .before .before .before .before .before .before .before .before .before .before .before .before .before .before .args .line .now) (c .before .before .before .before .before .before .before .before .before .before .before .read-line .result) (c .before .before .before .before .before .before .before .before .before .before .before .read-line .ensures))
+
+sub-carry-out-2 : tie.Need-sub-carry-out-2
+sub-carry-out-2 c = search needs
+
+part-carry-out-start-2 : tie.Need-part-carry-out-start-2
+part-carry-out-start-2 c = search needs
+
+part-carry-out-end-2 : tie.Need-part-carry-out-end-2
+part-carry-out-end-2 c =
+    omega (arith, read-held (c .before .before .before .before .before .before .before .before .before .before .before .before .before .before .before .before .before .before .args .line .now) (c .before .before .before .before .before .before .before .before .before .before .before .before .before .read-line .result) (c .before .before .before .before .before .before .before .before .before .before .before .before .before .read-line .ensures))
+
+sub-carry-out-3 : tie.Need-sub-carry-out-3
+sub-carry-out-3 c = search needs
+
+part-carry-out-start-3 : tie.Need-part-carry-out-start-3
+part-carry-out-start-3 c = search needs
+
+part-carry-out-end-3 : tie.Need-part-carry-out-end-3
+part-carry-out-end-3 c =
+    omega (arith, read-held (c .before .before .before .before .before .before .before .before .before .before .before .before .before .before .before .before .before .before .before .before .args .line .now) (c .before .before .before .before .before .before .before .before .before .before .before .before .before .before .before .read-line .result) (c .before .before .before .before .before .before .before .before .before .before .before .before .before .before .before .read-line .ensures))
+
+sub-carry-out-4 : tie.Need-sub-carry-out-4
+sub-carry-out-4 c = search needs
+
+part-carry-out-start-4 : tie.Need-part-carry-out-start-4
+part-carry-out-start-4 c = search needs
+
+part-carry-out-end-4 : tie.Need-part-carry-out-end-4
+part-carry-out-end-4 c =
+    omega (arith, read-held (c .before .before .before .before .before .before .before .before .before .before .before .before .before .before .before .before .before .before .before .before .before .before .args .line .now) (c .before .before .before .before .before .before .before .before .before .before .before .before .before .before .before .before .before .read-line .result) (c .before .before .before .before .before .before .before .before .before .before .before .before .before .before .before .before .before .read-line .ensures))
+
+carry-out-requires : tie.Need-carry-out-requires
+carry-out-requires c κs = search needs
+
+add-to : tie.Need-add-to
+add-to c =
+    omega (arith, c .before .before .before .before .carry-out .ensures .within, c .before .before .before .before .before .before .before .before .before .before .before .before .before .before .before .before .before .before .before .before .before .before .before .before .before .before .before .before .good .0, c .before .before .before .before .carry-out .kept .0)
+
+mul-write-answer : tie.Need-mul-write-answer
+mul-write-answer c =
+    omega (arith, c .before .before .before .before .before .carry-out .ensures .within, c .before .before .before .before .before .before .before .before .before .before .before .before .before .before .before .before .before .before .before .before .before .before .before .before .before .before .before .before .before .good .0, c .before .before .before .before .before .carry-out .kept .0)
+
+sub-write-answer : tie.Need-sub-write-answer
+sub-write-answer c = search needs
+
+part-write-answer-start : tie.Need-part-write-answer-start
+part-write-answer-start c = search needs
+
+part-write-answer-end : tie.Need-part-write-answer-end
+part-write-answer-end c = search needs
+
+write-answer-requires : tie.Need-write-answer-requires
+write-answer-requires c κs = search needs
+
 enum-told : tie.Need-enum-told
 enum-told c = search needs
 
--- src/lib.rt:132:36
 write-no-form-requires : tie.Need-write-no-form-requires
 write-no-form-requires c κs = search needs
 
--- src/lib.rt:118:1
 same-length : tie.Need-same-length
 same-length c = search needs
 
--- src/lib.rt:118:1
 same-length-2 : tie.Need-same-length-2
 same-length-2 c = search needs
 
--- src/lib.rt:118:1
 returns-2 : tie.Need-returns-2
 returns-2 c =
-    told-read _ _ _ _ _ _ _ (c .before .before .before .before .before .before .before .before .before .before .before .before .if1 .left) (step-read (c .before .before .before .before .before .before .before .before .before .before .before .before .before .before .before .before .args .line .now) _ _ (c .before .before .before .before .before .before .before .before .before .before .before .read-line .ensures) (c .before .before .before .before .before .before .before .before .before .o .given .1)) (c .before .before .before .answer .ensures)
+    stepped-read _ _ _ _ _ _ (c .before .before .before .before .before .before .before .before .before .before .before .before .before .before .before .before .before .before .before .before .before .before .before .before .before .before .before .before .before .before .if1 .left) (c .before .before .before .before .before .before .before .before .before .before .before .before .before .before .before .before .before .before .before .before .before .before .before .before .before .before .before .before .before .read-line .result) _ (c .before .before .before .before .before .before .before .before .before .before .before .before .before .before .before .before .before .before .before .before .before .before .before .before .before .before .before .before .before .read-line .ensures) (c .before .before .before .before .before .before .before .before .before .before .before .before .before .before .before .before .before .before .before .before .before .before .before .before .before .before .before .o .given .1) (c .before .before .before .before .before .before .before .before .before .before .carry-out .result) (c .before .before .before .before .before .before .before .before .before .before .carry-out .ensures) (c .before .before .write-answer .ensures)
 
--- src/lib.rt:118:1
 same-length-3 : tie.Need-same-length-3
 same-length-3 c = search needs
 
--- src/lib.rt:118:1
 returns-3 : tie.Need-returns-3
 returns-3 c =
-    told-none (c .before .before .before .before .before .before .before .before .before .before .before .args .b .now) (c .before .before .before .before .before .before .before .before .before .before .before .args .names .now) (c .before .before .before .before .before .before .before .before .before .before .before .args .out .now) _ _ _ (c .before .before .before .before .before .before .before .if1 .left) (step-none (c .before .before .before .before .before .before .before .before .before .before .before .args .line .now) _ _ (c .before .before .before .before .before .before .read-line .ensures) (c .before .before .before .before .enum-told .given .1)) refl (c .before .before .write-no-form .ensures)
+    stepped-none _ _ _ _ _ _ (c .before .before .before .before .before .before .before .if1 .left) (c .before .before .before .before .before .before .read-line .result) _ (c .before .before .before .before .before .before .read-line .ensures) (c .before .before .before .before .enum-told .given .1) refl (c .before .before .write-no-form .ensures)
 
 pub step-spec : {M : Type 1} → statement M
 step-spec =
@@ -64,7 +114,25 @@ step-spec =
     returns
     read-line-requires
     enum-known-o
-    answer-requires
+    sub-carry-out
+    part-carry-out-start
+    part-carry-out-end
+    sub-carry-out-2
+    part-carry-out-start-2
+    part-carry-out-end-2
+    sub-carry-out-3
+    part-carry-out-start-3
+    part-carry-out-end-3
+    sub-carry-out-4
+    part-carry-out-start-4
+    part-carry-out-end-4
+    carry-out-requires
+    add-to
+    mul-write-answer
+    sub-write-answer
+    part-write-answer-start
+    part-write-answer-end
+    write-answer-requires
     enum-told
     write-no-form-requires
     same-length

@@ -9,87 +9,67 @@ use Rattle.engine.proofs.order_status.Reads as order-status-reads
 use Rattle.engine.proofs.payment.Reads as payment-reads
 use Rattle.engine.proofs.stock_level.Reads as stock-level-reads
 
--- src/lib.rt:128:24
 enum-known-form : tie.Need-enum-known-form
 enum-known-form c = search needs
 
--- src/lib.rt:128:30
 new-order-requires : tie.Need-new-order-requires
 new-order-requires c κs = search needs
 
--- src/lib.rt:129:23
 enum-known-form-2 : tie.Need-enum-known-form-2
 enum-known-form-2 c = search needs
 
--- src/lib.rt:129:34
 payment-requires : tie.Need-payment-requires
 payment-requires c κs = search needs
 
--- src/lib.rt:130:24
 enum-known-form-3 : tie.Need-enum-known-form-3
 enum-known-form-3 c = search needs
 
--- src/lib.rt:130:30
 delivery-requires : tie.Need-delivery-requires
 delivery-requires c κs = search needs
 
--- src/lib.rt:131:27
 enum-known-form-4 : tie.Need-enum-known-form-4
 enum-known-form-4 c = search needs
 
--- src/lib.rt:131:38
 order-status-requires : tie.Need-order-status-requires
 order-status-requires c κs = search needs
 
--- src/lib.rt:132:26
 enum-known-form-5 : tie.Need-enum-known-form-5
 enum-known-form-5 c = search needs
 
--- src/lib.rt:132:32
 stock-level-requires : tie.Need-stock-level-requires
 stock-level-requires c κs = search needs
 
--- src/lib.rt:116:1
 same-length : tie.Need-same-length
 same-length c = search needs
 
--- src/lib.rt:116:1
 returns : tie.Need-returns
 returns c =
     rw (c .before .before .before .before .form .given .1) (c .before .new-order .ensures)
 
--- src/lib.rt:116:1
 same-length-2 : tie.Need-same-length-2
 same-length-2 c = search needs
 
--- src/lib.rt:116:1
 returns-2 : tie.Need-returns-2
 returns-2 c =
     rw (c .before .before .before .before .form2 .given .1) (c .before .payment .ensures)
 
--- src/lib.rt:116:1
 same-length-3 : tie.Need-same-length-3
 same-length-3 c = search needs
 
--- src/lib.rt:116:1
 returns-3 : tie.Need-returns-3
 returns-3 c =
     rw (c .before .before .before .before .form3 .given .1) (c .before .delivery .ensures)
 
--- src/lib.rt:116:1
 same-length-4 : tie.Need-same-length-4
 same-length-4 c = search needs
 
--- src/lib.rt:116:1
 returns-4 : tie.Need-returns-4
 returns-4 c =
     rw (c .before .before .before .form4 .given .1) (c .order-status .ensures)
 
--- src/lib.rt:116:1
 same-length-5 : tie.Need-same-length-5
 same-length-5 c = search needs
 
--- src/lib.rt:116:1
 returns-5 : tie.Need-returns-5
 returns-5 c =
     rw (c .before .before .before .form5 .given .1) (c .stock-level .ensures)

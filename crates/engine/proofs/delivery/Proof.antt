@@ -7,19 +7,16 @@ use Rattle.engine.proofs.delivery.Reads as reads
 use Rattle.engine.proofs.delivery.Lts as lts
 use Rattle.delivery.proofs.delivery.Reads as delivery-reads
 
--- src/lib.rt:66:9
 delivery-requires : tie.Need-delivery-requires
 delivery-requires c κs = search needs
 
--- src/lib.rt:63:1
 same-length : tie.Need-same-length
 same-length c = search needs
 
--- src/lib.rt:63:1
 returns : tie.Need-returns
 unfolding answerOf ordersOf shownOf numsAfter
 returns c =
-    record { kind = refl; says = c .before .before .delivery .ensures .0; orders = c .before .before .delivery .ensures .1 .0; within = search needs; shows = refl; leaves = c .before .before .delivery .ensures .1 .1 }
+    record { kind = refl; says = c .before .before .delivery .ensures .says; orders = c .before .before .delivery .ensures .orders; within = search needs; shows = refl; leaves = c .before .before .delivery .ensures .leaves }
 
 pub delivery-spec : {M : Type 1} → statement M
 delivery-spec = tie.close (tie.spec delivery-requires same-length returns)

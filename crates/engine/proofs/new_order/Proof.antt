@@ -7,19 +7,16 @@ use Rattle.engine.proofs.new_order.Reads as reads
 use Rattle.engine.proofs.new_order.Lts as lts
 use Rattle.new_order.proofs.new_order_split.Reads as new-order-split-reads
 
--- src/lib.rt:28:9
 new-order-split-requires : tie.Need-new-order-split-requires
 new-order-split-requires c κs = search needs
 
--- src/lib.rt:18:1
 same-length : tie.Need-same-length
 same-length c = search needs
 
--- src/lib.rt:18:1
 returns : tie.Need-returns
 unfolding answerOf ordersOf shownOf numsAfter
 returns c =
-    record { kind = refl; says = c .before .new-order-split .ensures .0; orders = refl; within = search needs; shows = refl; leaves = c .before .new-order-split .ensures .1 }
+    record { kind = refl; says = c .before .new-order-split .ensures .says; orders = refl; within = search needs; shows = refl; leaves = c .before .new-order-split .ensures .leaves }
 
 pub new-order-spec : {M : Type 1} → statement M
 new-order-spec = tie.close (tie.spec new-order-split-requires same-length returns)

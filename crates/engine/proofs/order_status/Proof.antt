@@ -7,15 +7,13 @@ use Rattle.engine.proofs.order_status.Reads as reads
 use Rattle.engine.proofs.order_status.Lts as lts
 use Rattle.order_status.proofs.status_shown.Reads as status-shown-reads
 
--- src/lib.rt:88:9
 status-shown-requires : tie.Need-status-shown-requires
 status-shown-requires c κs = search needs
 
--- src/lib.rt:79:1
 returns : tie.Need-returns
 unfolding answerOf ordersOf shownOf numsAfter
 returns c =
-    record { kind = refl; says = c .before .status-shown .ensures .0; orders = refl; within = c .before .status-shown .ensures .1 .0; shows = c .before .status-shown .ensures .1 .1; leaves = refl }
+    record { kind = refl; says = c .before .status-shown .ensures .says; orders = refl; within = c .before .status-shown .ensures .within; shows = c .before .status-shown .ensures .shows; leaves = refl }
 
 pub order-status-spec : {M : Type 1} → statement M
 order-status-spec = tie.close (tie.spec status-shown-requires returns)

@@ -7,19 +7,16 @@ use Rattle.engine.proofs.payment.Reads as reads
 use Rattle.engine.proofs.payment.Lts as lts
 use Rattle.payment.proofs.payment.Reads as payment-reads
 
--- src/lib.rt:50:9
 payment-requires : tie.Need-payment-requires
 payment-requires c κs = search needs
 
--- src/lib.rt:41:1
 same-length : tie.Need-same-length
 same-length c = search needs
 
--- src/lib.rt:41:1
 returns : tie.Need-returns
 unfolding answerOf ordersOf shownOf numsAfter
 returns c =
-    record { kind = refl; says = c .before .payment .ensures .0; orders = refl; within = search needs; shows = refl; leaves = c .before .payment .ensures .1 }
+    record { kind = refl; says = c .before .payment .ensures .says; orders = refl; within = search needs; shows = refl; leaves = c .before .payment .ensures .leaves }
 
 pub payment-spec : {M : Type 1} → statement M
 payment-spec = tie.close (tie.spec payment-requires same-length returns)

@@ -7,15 +7,13 @@ use Rattle.engine.proofs.stock_level.Reads as reads
 use Rattle.engine.proofs.stock_level.Lts as lts
 use Rattle.stock_level.proofs.stock_level.Reads as stock-level-reads
 
--- src/lib.rt:103:9
 stock-level-requires : tie.Need-stock-level-requires
 stock-level-requires c κs = search needs
 
--- src/lib.rt:100:1
 returns : tie.Need-returns
 unfolding answerOf ordersOf shownOf numsAfter
 returns c =
-    record { kind = refl; says = c .stock-level .ensures; orders = refl; within = search needs; shows = refl; leaves = refl }
+    record { kind = refl; says = c .stock-level .ensures .says; orders = refl; within = search needs; shows = refl; leaves = refl }
 
 pub stock-level-spec : {M : Type 1} → statement M
 stock-level-spec = tie.close (tie.spec stock-level-requires returns)

@@ -6,39 +6,30 @@ use Rattle.layout.proofs.district_at.Tie as tie
 use Rattle.layout.proofs.district_at.Reads as reads
 use Rattle.layout.proofs.district_at.Lts as lts
 
--- src/lib.rt:152:9
 mul-result : tie.Need-mul-result
 mul-result c = search needs
 
--- src/lib.rt:152:5
 add-result : tie.Need-add-result
 add-result c = search needs
 
--- src/lib.rt:152:39
 sub-result : tie.Need-sub-result
 sub-result c = search needs
 
--- src/lib.rt:152:33
 mul-result-2 : tie.Need-mul-result-2
 mul-result-2 c = search needs
 
--- src/lib.rt:152:49
 sub-result-2 : tie.Need-sub-result-2
 sub-result-2 c = search needs
 
--- src/lib.rt:152:33
 add-result-2 : tie.Need-add-result-2
 add-result-2 c = search needs
 
--- src/lib.rt:152:28
 mul-result-3 : tie.Need-mul-result-3
 mul-result-3 c = search needs
 
--- src/lib.rt:152:5
 add-result-3 : tie.Need-add-result-3
 add-result-3 c = search needs
 
--- src/lib.rt:148:1
 returns : tie.Need-returns
 returns c =
     omega (arith, district-is (c .before .args .d) (c .before .args .w) (c .before .args .k) (c .before .pre .1 .0) (c .before .pre .1 .1))

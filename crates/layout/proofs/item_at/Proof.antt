@@ -7,19 +7,15 @@ use Rattle.layout.proofs.item_at.Reads as reads
 use Rattle.layout.proofs.item_at.Lts as lts
 use Rattle.layout.proofs.item_base.Reads as item-base-reads
 
--- src/lib.rt:169:5
 item-base-requires : tie.Need-item-base-requires
 item-base-requires c κs = search needs
 
--- src/lib.rt:169:21
 sub-result : tie.Need-sub-result
 sub-result c = search needs
 
--- src/lib.rt:169:5
 add-result : tie.Need-add-result
 add-result c = search needs
 
--- src/lib.rt:165:1
 returns : tie.Need-returns
 returns c =
     omega (arith, item-is (c .before .args .d) (c .before .args .i) (c .before .pre .1))

@@ -8,55 +8,43 @@ use Rattle.layout.proofs.order_at.Lts as lts
 use Rattle.layout.proofs.order_base.Reads as order-base-reads
 use Rattle.layout.proofs.slot_of.Reads as slot-of-reads
 
--- src/lib.rt:194:24
 sub-block : tie.Need-sub-block
 sub-block c = search needs
 
--- src/lib.rt:194:18
 mul-block : tie.Need-mul-block
 mul-block c = search needs
 
--- src/lib.rt:194:34
 sub-block-2 : tie.Need-sub-block-2
 sub-block-2 c = search needs
 
--- src/lib.rt:194:18
 add-block : tie.Need-add-block
 add-block c = search needs
 
--- src/lib.rt:194:17
 mul-block-2 : tie.Need-mul-block-2
 mul-block-2 c =
     omega (arith, order-block (c .before .args .d) (c .before .pre .0) (c .before .args .w) (c .before .args .k) (c .before .pre .1 .0) (c .before .pre .1 .1 .0))
 
--- src/lib.rt:195:9
 slot-of-requires : tie.Need-slot-of-requires
 slot-of-requires c κs = search needs
 
--- src/lib.rt:196:5
 order-base-requires : tie.Need-order-base-requires
 order-base-requires c κs = search needs
 
--- src/lib.rt:196:36
 sub-result : tie.Need-sub-result
 sub-result c = search needs
 
--- src/lib.rt:196:27
 add-result : tie.Need-add-result
 add-result c =
     omega (arith, order-block (c .before .before .before .args .d) (c .before .before .before .pre .0) (c .before .before .before .args .w) (c .before .before .before .args .k) (c .before .before .before .pre .1 .0) (c .before .before .before .pre .1 .1 .0))
 
--- src/lib.rt:196:21
 mul-result : tie.Need-mul-result
 mul-result c =
     omega (arith, order-block (c .before .before .before .args .d) (c .before .before .before .pre .0) (c .before .before .before .args .w) (c .before .before .before .args .k) (c .before .before .before .pre .1 .0) (c .before .before .before .pre .1 .1 .0))
 
--- src/lib.rt:196:5
 add-result-2 : tie.Need-add-result-2
 add-result-2 c =
     omega (arith, order-block (c .before .before .before .args .d) (c .before .before .before .pre .0) (c .before .before .before .args .w) (c .before .before .before .args .k) (c .before .before .before .pre .1 .0) (c .before .before .before .pre .1 .1 .0))
 
--- src/lib.rt:190:1
 returns : tie.Need-returns
 returns c =
     omega (arith, order-is (c .before .before .before .args .d) (c .before .before .before .args .w) (c .before .before .before .args .k) (c .before .before .before .args .o) (c .before .before .before .pre .1 .0) (c .before .before .before .pre .1 .1 .0) (c .before .before .before .pre .1 .1 .1))

@@ -5,7 +5,6 @@ use Rattle.layout.proofs.slot_of.Tie as tie
 use Rattle.layout.proofs.slot_of.Reads as reads
 use Rattle.layout.proofs.slot_of.Lts as lts
 
--- src/lib.rt:182:1
 returns : tie.Need-returns
 unfolding slot
 returns c =

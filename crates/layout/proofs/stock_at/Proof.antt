@@ -7,39 +7,31 @@ use Rattle.layout.proofs.stock_at.Reads as reads
 use Rattle.layout.proofs.stock_at.Lts as lts
 use Rattle.layout.proofs.stock_base.Reads as stock-base-reads
 
--- src/lib.rt:177:18
 sub-block : tie.Need-sub-block
 sub-block c = search needs
 
--- src/lib.rt:177:17
 mul-block : tie.Need-mul-block
 mul-block c =
     omega (arith, stock-block (c .before .args .d) (c .before .pre .0) (c .before .args .w) (c .before .pre .1 .0))
 
--- src/lib.rt:178:5
 stock-base-requires : tie.Need-stock-base-requires
 stock-base-requires c κs = search needs
 
--- src/lib.rt:178:35
 sub-result : tie.Need-sub-result
 sub-result c = search needs
 
--- src/lib.rt:178:26
 add-result : tie.Need-add-result
 add-result c =
     omega (arith, stock-block (c .before .before .args .d) (c .before .before .pre .0) (c .before .before .args .w) (c .before .before .pre .1 .0))
 
--- src/lib.rt:178:21
 mul-result : tie.Need-mul-result
 mul-result c =
     omega (arith, stock-block (c .before .before .args .d) (c .before .before .pre .0) (c .before .before .args .w) (c .before .before .pre .1 .0))
 
--- src/lib.rt:178:5
 add-result-2 : tie.Need-add-result-2
 add-result-2 c =
     omega (arith, stock-block (c .before .before .args .d) (c .before .before .pre .0) (c .before .before .args .w) (c .before .before .pre .1 .0))
 
--- src/lib.rt:173:1
 returns : tie.Need-returns
 returns c =
     omega (arith, stock-is (c .before .before .args .d) (c .before .before .args .w) (c .before .before .args .i) (c .before .before .pre .1 .0) (c .before .before .pre .1 .1))

@@ -6,19 +6,15 @@ use Rattle.layout.proofs.warehouse_at.Tie as tie
 use Rattle.layout.proofs.warehouse_at.Reads as reads
 use Rattle.layout.proofs.warehouse_at.Lts as lts
 
--- src/lib.rt:144:14
 sub-result : tie.Need-sub-result
 sub-result c = search needs
 
--- src/lib.rt:144:9
 mul-result : tie.Need-mul-result
 mul-result c = search needs
 
--- src/lib.rt:144:5
 add-result : tie.Need-add-result
 add-result c = search needs
 
--- src/lib.rt:140:1
 returns : tie.Need-returns
 returns c =
     omega (arith, warehouse-is (c .args .d) (c .args .w) (c .pre .1))

@@ -17,57 +17,46 @@ Inv-loop from n v c₀ i₀ c i = (i ≤ n) × ((length v ≡ 49) × ((length c 
 abbrev μ-loop : tie.MeasureT-loop
 μ-loop from n v c₀ i₀ c i = n - i
 
--- src/lib.rt:232:5
 loop-holds : tie.Need-loop-holds Inv-loop μ-loop
 loop-holds c =
     (search needs, (search needs, (search needs, column-none _ _)))
 
--- src/lib.rt:233:25
 mul-c : tie.Need-mul-c Inv-loop μ-loop
 mul-c c =
     search needs
 
--- src/lib.rt:233:18
 add-c : tie.Need-add-c Inv-loop μ-loop
 add-c c =
     search needs
 
--- src/lib.rt:233:16
 mul-c-2 : tie.Need-mul-c-2 Inv-loop μ-loop
 mul-c-2 c =
     search needs
 
--- src/lib.rt:233:16
 array-read-c : tie.Need-array-read-c Inv-loop μ-loop
 array-read-c c =
     search needs
 
--- src/lib.rt:233:9
 mul-c-3 : tie.Need-mul-c-3 Inv-loop μ-loop
 mul-c-3 c =
     search needs
 
--- src/lib.rt:233:9
 array-write-c : tie.Need-array-write-c Inv-loop μ-loop
 array-write-c c =
     search needs
 
--- src/lib.rt:234:9
 add-i : tie.Need-add-i Inv-loop μ-loop
 add-i c =
     search needs
 
--- src/lib.rt:232:5
 loop-less : tie.Need-loop-less Inv-loop μ-loop
 loop-less c =
     search needs
 
--- src/lib.rt:232:5
 loop-again : tie.Need-loop-again Inv-loop μ-loop
 loop-again c =
     (search needs, (search needs, (simp length-set (search needs), column-step _ _ _ _ (omega (arith, c .loop-test .taken, c .before .before .pre .0)) (c .before .loop .inv .1 .1 .1))))
 
--- src/lib.rt:226:1
 returns : tie.Need-returns Inv-loop μ-loop
 returns c =
     let e : c .before .loop .i ≡ c .before .before .args .n = le-antisymm (c .before .loop .inv .0) (c .loop-test .left) in rw e at (c .before .loop .inv .1 .1 .1)

@@ -1,24 +1,19 @@
 use borrow.Author.Needs.{needs}
-use borrow.Author.Needs.{needs}
 use Rattle.lines.proofs.lines_of.Statement.{statement}
 use Rattle.lines.proofs.lines_of.Tie as tie
 use Rattle.lines.proofs.lines_of.Reads as reads
 use Rattle.lines.proofs.lines_of.Lts as lts
 use Rattle.lines.proofs.column.Reads as column-reads
 
--- src/lib.rt:244:9
 column-requires : tie.Need-column-requires
 column-requires c κs = search needs
 
--- src/lib.rt:245:9
 column-requires-2 : tie.Need-column-requires-2
 column-requires-2 c κs = search needs
 
--- src/lib.rt:246:9
 column-requires-3 : tie.Need-column-requires-3
 column-requires-3 c κs = search needs
 
--- src/lib.rt:240:1
 returns : tie.Need-returns
 returns c =
     rw (c .before .before .column .ensures, c .before .column2 .ensures, c .column3 .ensures)

@@ -15,37 +15,30 @@ Inv-loop f bytes₀ i₀ bytes i = (i ≤ length f) × ((length f ≤ 16) × ((l
 abbrev μ-loop : tie.MeasureT-loop
 μ-loop f bytes₀ i₀ bytes i = length f - i
 
--- src/lib.rt:330:5
 loop-holds : tie.Need-loop-holds Inv-loop μ-loop
 loop-holds c =
     search needs
 
--- src/lib.rt:331:20
 shared-slice-read-bytes : tie.Need-shared-slice-read-bytes Inv-loop μ-loop
 shared-slice-read-bytes c =
     search needs
 
--- src/lib.rt:331:9
 array-write-bytes : tie.Need-array-write-bytes Inv-loop μ-loop
 array-write-bytes c =
     search needs
 
--- src/lib.rt:332:9
 add-i : tie.Need-add-i Inv-loop μ-loop
 add-i c =
     search needs
 
--- src/lib.rt:330:5
 loop-less : tie.Need-loop-less Inv-loop μ-loop
 loop-less c =
     search needs
 
--- src/lib.rt:330:5
 loop-again : tie.Need-loop-again Inv-loop μ-loop
 loop-again c =
     (search needs, (search needs, (simp length-set (search needs), bytes-step _ _ _ (c .before .loop-test .taken) (c .before .before .loop .inv .1 .0) (c .before .before .loop .inv .1 .1 .1))))
 
--- src/lib.rt:324:1
 returns : tie.Need-returns Inv-loop μ-loop
 returns c =
     bytes-end _ _ _ (c .before .loop .inv .0) (c .loop-test .left) (c .before .loop .inv .1 .1 .1)

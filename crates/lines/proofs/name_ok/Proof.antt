@@ -17,58 +17,47 @@ Inv-loop f n ok₀ i₀ ok i = (i ≤ n) × ((n ≡ length f) × ((1 ≤ length 
 abbrev μ-loop : tie.MeasureT-loop
 μ-loop f n ok₀ i₀ ok i = n - i
 
--- src/lib.rt:309:9
 returns : tie.Need-returns Inv-loop μ-loop
 returns c =
     name-empty _ (c .if1 .taken)
 
--- src/lib.rt:312:9
 returns-2 : tie.Need-returns-2 Inv-loop μ-loop
 returns-2 c =
     name-long _ (c .before .if1 .left) (c .if2 .taken)
 
--- src/lib.rt:316:5
 loop-holds : tie.Need-loop-holds Inv-loop μ-loop
 loop-holds c =
     (search needs, (search needs, (search needs, (search needs, name-none (c .before .before .before .args .f .now)))))
 
--- src/lib.rt:317:27
 shared-slice-read-byte-ok : tie.Need-shared-slice-read-byte-ok Inv-loop μ-loop
 shared-slice-read-byte-ok c =
     search needs
 
--- src/lib.rt:317:19
 byte-ok-requires : tie.Need-byte-ok-requires Inv-loop μ-loop
 byte-ok-requires c κs =
     search needs
 
--- src/lib.rt:318:9
 add-i : tie.Need-add-i Inv-loop μ-loop
 add-i c =
     search needs
 
--- src/lib.rt:316:5
 loop-less : tie.Need-loop-less Inv-loop μ-loop
 loop-less c =
     search needs
 
--- src/lib.rt:316:5
 loop-again : tie.Need-loop-again Inv-loop μ-loop
 loop-again c =
     let h : c .before .before .before .loop .i < length (c .before .before .before .before .before .before .before .args .f .now) = search needs in
     (search needs, (search needs, (search needs, (search needs, printable-step _ _ h (c .before .before .before .loop .inv .1 .1 .1 .1) (c .byte-ok .ensures)))))
 
--- src/lib.rt:320:11
 shared-slice-read-result : tie.Need-shared-slice-read-result Inv-loop μ-loop
 shared-slice-read-result c =
     search needs
 
--- src/lib.rt:320:26
 shared-slice-read-result-2 : tie.Need-shared-slice-read-result-2 Inv-loop μ-loop
 shared-slice-read-result-2 c =
     search needs
 
--- src/lib.rt:304:1
 returns-3 : tie.Need-returns-3 Inv-loop μ-loop
 returns-3 c =
     name-end _ _ _ (c .before .before .before .loop .inv .0) (c .before .before .loop-test .left) (c .before .before .before .loop .inv .1 .0) (c .before .before .before .loop .inv .1 .1 .0) (c .before .before .before .loop .inv .1 .1 .1 .0) (c .before .before .before .loop .inv .1 .1 .1 .1)

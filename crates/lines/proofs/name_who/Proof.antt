@@ -2,7 +2,6 @@ use borrow.Author.Needs.{needs}
 use mathlib.Core.Path.{sym, _∙_}
 use Rattle.lines.specs.Fields.{whoByName}
 use Rattle.lines.proofs.Whos.{name-short}
-use borrow.Author.Needs.{needs}
 use Rattle.lines.proofs.name_who.Statement.{statement}
 use Rattle.lines.proofs.name_who.Tie as tie
 use Rattle.lines.proofs.name_who.Reads as reads
@@ -11,26 +10,21 @@ use Rattle.lines.proofs.name_of.Reads as name-of-reads
 use Rattle.lines.proofs.name_ok.Reads as name-ok-reads
 use Rattle.lines.proofs.no_who.Reads as no-who-reads
 
--- src/lib.rt:375:8
 name-ok-requires : tie.Need-name-ok-requires
 name-ok-requires c κs = search needs
 
--- src/lib.rt:377:13
 name-of-requires : tie.Need-name-of-requires
 name-of-requires c κs =
     name-short _ (sym (c .before .name-ok .ensures) ∙ c .if1 .taken)
 
--- src/lib.rt:378:9
 returns : tie.Need-returns
 unfolding whoByName
 returns c =
     rw (c .name-of .ensures, ← c .before .before .name-ok .ensures, c .before .if1 .taken)
 
--- src/lib.rt:385:5
 no-who-requires : tie.Need-no-who-requires
 no-who-requires c κs = search needs
 
--- src/lib.rt:372:1
 returns-2 : tie.Need-returns-2
 unfolding whoByName
 returns-2 c =

@@ -1,6 +1,5 @@
 use borrow.Author.Needs.{needs}
 use Rattle.model.specs.RequestLine.{stored}
-use borrow.Author.Needs.{needs}
 use Rattle.lines.proofs.no_form.Statement.{statement}
 use Rattle.lines.proofs.no_form.Tie as tie
 use Rattle.lines.proofs.no_form.Reads as reads
@@ -8,15 +7,12 @@ use Rattle.lines.proofs.no_form.Lts as lts
 use Rattle.lines.proofs.no_lines.Reads as no-lines-reads
 use Rattle.lines.proofs.no_name.Reads as no-name-reads
 
--- src/lib.rt:160:9
 no-lines-requires : tie.Need-no-lines-requires
 no-lines-requires c κs = search needs
 
--- src/lib.rt:161:9
 no-name-requires : tie.Need-no-name-requires
 no-name-requires c κs = search needs
 
--- src/lib.rt:153:1
 returns : tie.Need-returns
 unfolding stored
 returns c =

@@ -1,16 +1,13 @@
 use borrow.Author.Needs.{needs}
-use borrow.Author.Needs.{needs}
 use Rattle.lines.proofs.no_who.Statement.{statement}
 use Rattle.lines.proofs.no_who.Tie as tie
 use Rattle.lines.proofs.no_who.Reads as reads
 use Rattle.lines.proofs.no_who.Lts as lts
 use Rattle.lines.proofs.no_name.Reads as no-name-reads
 
--- src/lib.rt:345:9
 no-name-requires : tie.Need-no-name-requires
 no-name-requires c κs = search needs
 
--- src/lib.rt:341:1
 returns : tie.Need-returns
 returns c =
     rw (c .no-name .ensures)

@@ -1,41 +1,33 @@
 use borrow.Author.Needs.{needs}
 use mathlib.Core.Path.{sym, _∙_}
 use Rattle.lines.proofs.Whos.{by-number, by-none}
-use borrow.Author.Needs.{needs}
 use Rattle.lines.proofs.number_who.Statement.{statement}
 use Rattle.lines.proofs.number_who.Tie as tie
 use Rattle.lines.proofs.number_who.Reads as reads
 use Rattle.lines.proofs.number_who.Lts as lts
 use Rattle.lines.proofs.no_name.Reads as no-name-reads
 use Rattle.lines.proofs.no_who.Reads as no-who-reads
-use Rattle.lines.proofs.number_of.Reads as number-of-reads
+use Rattle.text.proofs.number_of.Reads as number-of-reads
 
--- src/lib.rt:358:28
 number-of-requires : tie.Need-number-of-requires
 number-of-requires c κs = search needs
 
--- src/lib.rt:358:23
 enum-known-v : tie.Need-enum-known-v
 enum-known-v c = search needs
 
--- src/lib.rt:359:9
 enum-told : tie.Need-enum-told
 enum-told c = search needs
 
--- src/lib.rt:359:9
 no-who-requires : tie.Need-no-who-requires
 no-who-requires c κs = search needs
 
--- src/lib.rt:359:9
 returns : tie.Need-returns
 returns c =
     c .no-who .ensures ∙ sym (by-none _ _ (sym (c .before .before .before .number-of .ensures) ∙ c .before .enum-told .given .1))
 
--- src/lib.rt:362:9
 no-name-requires : tie.Need-no-name-requires
 no-name-requires c κs = search needs
 
--- src/lib.rt:355:1
 returns-2 : tie.Need-returns-2
 returns-2 c =
     rw (c .no-name .ensures) (sym (by-number _ _ _ (sym (c .before .before .before .before .number-of .ensures) ∙ c .before .before .v .given .1)))

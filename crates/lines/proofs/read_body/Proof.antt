@@ -2,42 +2,34 @@ use borrow.Author.Needs.{needs}
 use mathlib.Core.Path.{sym, _∙_, ap}
 use Rattle.model.specs.RequestLine.{stored}
 use Rattle.lines.proofs.WhoForms.{body-not, body-is}
-use borrow.Author.Needs.{needs}
 use Rattle.lines.proofs.read_body.Statement.{statement}
 use Rattle.lines.proofs.read_body.Tie as tie
 use Rattle.lines.proofs.read_body.Reads as reads
 use Rattle.lines.proofs.read_body.Lts as lts
-use Rattle.lines.proofs.field_end.Reads as field-end-reads
+use Rattle.text.proofs.field_end.Reads as field-end-reads
 use Rattle.lines.proofs.no_form.Reads as no-form-reads
 use Rattle.lines.proofs.read_form.Reads as read-form-reads
-use Rattle.lines.proofs.wide.Reads as wide-reads
+use Rattle.text.proofs.wide.Reads as wide-reads
 
--- src/lib.rt:520:9
 field-end-requires : tie.Need-field-end-requires
 field-end-requires c κs = search needs
 
--- src/lib.rt:522:9
 no-form-requires : tie.Need-no-form-requires
 no-form-requires c κs = search needs
 
--- src/lib.rt:522:9
 returns : tie.Need-returns
 returns c =
     c .no-form .ensures ∙ ap stored (sym (body-not _ _ (c .before .before .field-end .ensures) (c .before .if1 .taken)))
 
--- src/lib.rt:524:18
 shared-slice-read-wide : tie.Need-shared-slice-read-wide
 shared-slice-read-wide c = search needs
 
--- src/lib.rt:524:9
 wide-requires : tie.Need-wide-requires
 wide-requires c κs = search needs
 
--- src/lib.rt:525:5
 read-form-requires : tie.Need-read-form-requires
 read-form-requires c κs = search needs
 
--- src/lib.rt:517:1
 returns-2 : tie.Need-returns-2
 returns-2 c =
     c .read-form .ensures ∙ ap stored (sym (body-is _ _ _ (c .before .before .before .before .field-end .ensures) (c .before .before .before .if1 .left) (c .before .wide .ensures)))

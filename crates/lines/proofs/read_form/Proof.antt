@@ -1,7 +1,6 @@
 use borrow.Author.Needs.{needs}
 use Rattle.model.specs.RequestLine.{readFields}
 use borrow.Author.Tests.{eq-eqb, ne-eqb}
-use borrow.Author.Needs.{needs}
 use Rattle.lines.proofs.read_form.Statement.{statement}
 use Rattle.lines.proofs.read_form.Tie as tie
 use Rattle.lines.proofs.read_form.Reads as reads
@@ -13,61 +12,49 @@ use Rattle.lines.proofs.read_order_status.Reads as read-order-status-re
 use Rattle.lines.proofs.read_payment.Reads as read-payment-reads
 use Rattle.lines.proofs.read_stock_level.Reads as read-stock-level-reads
 
--- src/lib.rt:499:9
 read-new-order-requires : tie.Need-read-new-order-requires
 read-new-order-requires c κs = search needs
 
--- src/lib.rt:499:9
 returns : tie.Need-returns
 unfolding readFields
 returns c =
     rw (eq-eqb _ _ (c .before .if1 .taken)) (c .read-new-order .ensures)
 
--- src/lib.rt:502:9
 read-payment-requires : tie.Need-read-payment-requires
 read-payment-requires c κs = search needs
 
--- src/lib.rt:502:9
 returns-2 : tie.Need-returns-2
 unfolding readFields
 returns-2 c =
     rw (ne-eqb _ _ (c .before .before .if1 .left), eq-eqb _ _ (c .before .if2 .taken)) (c .read-payment .ensures)
 
--- src/lib.rt:505:9
 read-delivery-requires : tie.Need-read-delivery-requires
 read-delivery-requires c κs = search needs
 
--- src/lib.rt:505:9
 returns-3 : tie.Need-returns-3
 unfolding readFields
 returns-3 c =
     rw (ne-eqb _ _ (c .before .before .before .if1 .left), ne-eqb _ _ (c .before .before .if2 .left), eq-eqb _ _ (c .before .if3 .taken)) (c .read-delivery .ensures)
 
--- src/lib.rt:508:9
 read-order-status-requires : tie.Need-read-order-status-requires
 read-order-status-requires c κs = search needs
 
--- src/lib.rt:508:9
 returns-4 : tie.Need-returns-4
 unfolding readFields
 returns-4 c =
     rw (ne-eqb _ _ (c .before .before .before .before .if1 .left), ne-eqb _ _ (c .before .before .before .if2 .left), ne-eqb _ _ (c .before .before .if3 .left), eq-eqb _ _ (c .before .if4 .taken)) (c .read-order-status .ensures)
 
--- src/lib.rt:511:9
 read-stock-level-requires : tie.Need-read-stock-level-requires
 read-stock-level-requires c κs = search needs
 
--- src/lib.rt:511:9
 returns-5 : tie.Need-returns-5
 unfolding readFields
 returns-5 c =
     rw (ne-eqb _ _ (c .before .before .before .before .before .if1 .left), ne-eqb _ _ (c .before .before .before .before .if2 .left), ne-eqb _ _ (c .before .before .before .if3 .left), ne-eqb _ _ (c .before .before .if4 .left), eq-eqb _ _ (c .before .if5 .taken)) (c .read-stock-level .ensures)
 
--- src/lib.rt:513:5
 no-form-requires : tie.Need-no-form-requires
 no-form-requires c κs = search needs
 
--- src/lib.rt:494:1
 returns-6 : tie.Need-returns-6
 unfolding readFields
 returns-6 c =

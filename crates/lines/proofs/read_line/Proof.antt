@@ -2,7 +2,6 @@ use borrow.Author.Needs.{needs}
 use mathlib.Core.Path.{sym, _∙_, ap}
 use Rattle.model.specs.RequestLine.{stored}
 use Rattle.lines.proofs.WhoForms.{line-empty, line-open, line-is}
-use borrow.Author.Needs.{needs}
 use Rattle.lines.proofs.read_line.Statement.{statement}
 use Rattle.lines.proofs.read_line.Tie as tie
 use Rattle.lines.proofs.read_line.Reads as reads
@@ -10,45 +9,35 @@ use Rattle.lines.proofs.read_line.Lts as lts
 use Rattle.lines.proofs.no_form.Reads as no-form-reads
 use Rattle.lines.proofs.read_body.Reads as read-body-reads
 
--- src/lib.rt:534:9
 no-form-requires : tie.Need-no-form-requires
 no-form-requires c κs = search needs
 
--- src/lib.rt:534:9
 returns : tie.Need-returns
 returns c =
     c .no-form .ensures ∙ ap stored (sym (line-empty _ (c .before .if1 .taken)))
 
--- src/lib.rt:536:8
 shared-slice-read-if2 : tie.Need-shared-slice-read-if2
 shared-slice-read-if2 c = search needs
 
--- src/lib.rt:537:9
 no-form-requires-2 : tie.Need-no-form-requires-2
 no-form-requires-2 c κs = search needs
 
--- src/lib.rt:537:9
 returns-2 : tie.Need-returns-2
 returns-2 c =
     c .no-form2 .ensures ∙ ap stored (sym (line-open _ (c .before .before .before .if1 .left) (c .before .if2 .taken)))
 
--- src/lib.rt:539:15
 sub-read-body : tie.Need-sub-read-body
 sub-read-body c = search needs
 
--- src/lib.rt:539:15
 part-read-body-start : tie.Need-part-read-body-start
 part-read-body-start c = search needs
 
--- src/lib.rt:539:15
 part-read-body-end : tie.Need-part-read-body-end
 part-read-body-end c = search needs
 
--- src/lib.rt:539:5
 read-body-requires : tie.Need-read-body-requires
 read-body-requires c κs = search needs
 
--- src/lib.rt:529:1
 returns-3 : tie.Need-returns-3
 returns-3 c =
     c .read-body .ensures ∙ ap stored (sym (line-is _ (c .before .before .before .before .if1 .left) (c .before .before .if2 .left)))

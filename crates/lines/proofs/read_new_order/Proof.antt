@@ -2,7 +2,6 @@ use borrow.Author.Needs.{needs}
 use mathlib.Core.Path.{sym, _∙_, ap}
 use Rattle.model.specs.RequestLine.{stored}
 use Rattle.lines.proofs.Forms.{order-left, order-few, order-odd, order-is}
-use borrow.Author.Needs.{needs}
 use Rattle.lines.proofs.read_new_order.Statement.{statement}
 use Rattle.lines.proofs.read_new_order.Tie as tie
 use Rattle.lines.proofs.read_new_order.Reads as reads
@@ -12,74 +11,57 @@ use Rattle.lines.proofs.no_form.Reads as no-form-reads
 use Rattle.lines.proofs.no_name.Reads as no-name-reads
 use Rattle.lines.proofs.numbers_at.Reads as numbers-at-reads
 
--- src/lib.rt:260:9
 numbers-at-requires : tie.Need-numbers-at-requires
 numbers-at-requires c κs = search needs
 
--- src/lib.rt:262:9
 no-form-requires : tie.Need-no-form-requires
 no-form-requires c κs = search needs
 
--- src/lib.rt:262:9
 returns : tie.Need-returns
 returns c =
     c .no-form .ensures ∙ ap stored (sym (order-left _ _ _ _ (c .before .before .before .numbers-at .ensures .0) (c .before .before .before .numbers-at .ensures .1 .1) (c .before .if1 .taken)))
 
--- src/lib.rt:265:9
 no-form-requires-2 : tie.Need-no-form-requires-2
 no-form-requires-2 c κs = search needs
 
--- src/lib.rt:265:9
 returns-2 : tie.Need-returns-2
 returns-2 c =
     c .no-form2 .ensures ∙ ap stored (sym (order-few _ _ _ _ (c .before .before .before .before .before .numbers-at .ensures .0) (c .before .before .before .if1 .left) (c .before .if2 .taken)))
 
--- src/lib.rt:267:14
 sub-k : tie.Need-sub-k
 sub-k c = search needs
 
--- src/lib.rt:268:23
 mul-if3 : tie.Need-mul-if3
 mul-if3 c = search needs
 
--- src/lib.rt:268:19
 add-if3 : tie.Need-add-if3
 add-if3 c = search needs
 
--- src/lib.rt:269:9
 no-form-requires-3 : tie.Need-no-form-requires-3
 no-form-requires-3 c κs = search needs
 
--- src/lib.rt:269:9
 returns-3 : tie.Need-returns-3
 returns-3 c =
     c .no-form3 .ensures ∙ ap stored (sym (order-odd _ _ _ _ (c .before .before .before .before .before .before .before .before .numbers-at .ensures .0) (c .before .before .before .before .before .before .if1 .left) (c .before .if3 .taken)))
 
--- src/lib.rt:273:20
 array-read-t13 : tie.Need-array-read-t13
 array-read-t13 c = search needs
 
--- src/lib.rt:274:19
 array-read-t16 : tie.Need-array-read-t16
 array-read-t16 c = search needs
 
--- src/lib.rt:275:19
 array-read-t19 : tie.Need-array-read-t19
 array-read-t19 c = search needs
 
--- src/lib.rt:276:15
 array-read-t22 : tie.Need-array-read-t22
 array-read-t22 c = search needs
 
--- src/lib.rt:278:9
 lines-of-requires : tie.Need-lines-of-requires
 lines-of-requires c κs = search needs
 
--- src/lib.rt:279:9
 no-name-requires : tie.Need-no-name-requires
 no-name-requires c κs = search needs
 
--- src/lib.rt:256:1
 returns-4 : tie.Need-returns-4
 returns-4 c =
     rw (c .before .lines-of .ensures, c .no-name .ensures) (sym (order-is _ _ _ _ (c .before .before .before .before .before .before .before .before .before .before .numbers-at .ensures .0) (c .before .before .before .before .before .before .before .before .if1 .left) (c .before .before .before .before .before .before .if2 .left) (c .before .before .before .before .before .before .before .before .before .before .numbers-at .ensures .1 .0) (c .before .before .before .if3 .left)))

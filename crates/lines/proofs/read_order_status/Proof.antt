@@ -4,7 +4,6 @@ use native.Mathlib.Nat.{le-antisymm}
 use Rattle.model.specs.RequestLine.{stored}
 use Rattle.lines.proofs.Whos.{who-found, who-lost}
 use Rattle.lines.proofs.WhoForms.{status-few, status-nobody, status-left, status-is}
-use borrow.Author.Needs.{needs}
 use Rattle.lines.proofs.read_order_status.Statement.{statement}
 use Rattle.lines.proofs.read_order_status.Tie as tie
 use Rattle.lines.proofs.read_order_status.Reads as reads
@@ -14,54 +13,42 @@ use Rattle.lines.proofs.no_lines.Reads as no-lines-reads
 use Rattle.lines.proofs.numbers_at.Reads as numbers-at-reads
 use Rattle.lines.proofs.who_at.Reads as who-at-reads
 
--- src/lib.rt:466:9
 numbers-at-requires : tie.Need-numbers-at-requires
 numbers-at-requires c κs = search needs
 
--- src/lib.rt:468:9
 no-form-requires : tie.Need-no-form-requires
 no-form-requires c κs = search needs
 
--- src/lib.rt:468:9
 returns : tie.Need-returns
 returns c =
     c .no-form .ensures ∙ ap stored (sym (status-few _ _ _ _ (c .before .before .before .numbers-at .ensures .0) (c .before .if1 .taken) (c .before .before .before .numbers-at .ensures .1 .1 (c .before .if1 .taken))))
 
--- src/lib.rt:470:9
 who-at-requires : tie.Need-who-at-requires
 who-at-requires c κs = search needs
 
--- src/lib.rt:472:9
 no-form-requires-2 : tie.Need-no-form-requires-2
 no-form-requires-2 c κs = search needs
 
--- src/lib.rt:472:9
 returns-2 : tie.Need-returns-2
 returns-2 c =
     c .no-form2 .ensures ∙ ap stored (sym (status-nobody _ _ _ _ (c .before .before .before .before .before .before .numbers-at .ensures .0) (le-antisymm (c .before .before .before .before .before .before .numbers-at .ensures .1 .0) (c .before .before .before .before .if1 .left)) (who-lost _ _ (c .before .before .before .who-at .result) (c .before .if2 .taken) (c .before .before .before .who-at .ensures))))
 
--- src/lib.rt:475:9
 no-form-requires-3 : tie.Need-no-form-requires-3
 no-form-requires-3 c κs = search needs
 
--- src/lib.rt:475:9
 returns-3 : tie.Need-returns-3
 returns-3 c =
     c .no-form3 .ensures ∙ ap stored (sym (status-left _ _ _ _ (c .before .before .before .before .before .before .before .before .numbers-at .ensures .0) _ _ _ (who-found _ _ (c .before .before .before .before .before .who-at .result) (c .before .before .before .if2 .left) (c .before .before .before .before .before .who-at .ensures)) (le-antisymm (c .before .before .before .before .before .before .before .before .numbers-at .ensures .1 .0) (c .before .before .before .before .before .before .if1 .left)) (c .before .if3 .taken)))
 
--- src/lib.rt:479:20
 array-read-t14 : tie.Need-array-read-t14
 array-read-t14 c = search needs
 
--- src/lib.rt:480:19
 array-read-t17 : tie.Need-array-read-t17
 array-read-t17 c = search needs
 
--- src/lib.rt:484:9
 no-lines-requires : tie.Need-no-lines-requires
 no-lines-requires c κs = search needs
 
--- src/lib.rt:462:1
 returns-4 : tie.Need-returns-4
 returns-4 c =
     rw (c .before .no-lines .ensures) (sym (status-is _ _ _ _ (c .before .before .before .before .before .before .before .before .before .before .numbers-at .ensures .0) _ _ _ (who-found _ _ (c .before .before .before .before .before .before .before .who-at .result) (c .before .before .before .before .before .if2 .left) (c .before .before .before .before .before .before .before .who-at .ensures)) (le-antisymm (c .before .before .before .before .before .before .before .before .before .before .numbers-at .ensures .1 .0) (c .before .before .before .before .before .before .before .before .if1 .left)) (c .before .before .before .if3 .left)))

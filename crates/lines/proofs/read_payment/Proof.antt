@@ -4,7 +4,6 @@ use native.Mathlib.Nat.{le-antisymm}
 use Rattle.model.specs.RequestLine.{stored}
 use Rattle.lines.proofs.Whos.{who-found, who-lost}
 use Rattle.lines.proofs.WhoForms.{payment-few, payment-nobody, payment-short, payment-left, payment-is}
-use borrow.Author.Needs.{needs}
 use Rattle.lines.proofs.read_payment.Statement.{statement}
 use Rattle.lines.proofs.read_payment.Tie as tie
 use Rattle.lines.proofs.read_payment.Reads as reads
@@ -14,84 +13,65 @@ use Rattle.lines.proofs.no_lines.Reads as no-lines-reads
 use Rattle.lines.proofs.numbers_at.Reads as numbers-at-reads
 use Rattle.lines.proofs.who_at.Reads as who-at-reads
 
--- src/lib.rt:425:9
 numbers-at-requires : tie.Need-numbers-at-requires
 numbers-at-requires c κs = search needs
 
--- src/lib.rt:427:9
 no-form-requires : tie.Need-no-form-requires
 no-form-requires c κs = search needs
 
--- src/lib.rt:427:9
 returns : tie.Need-returns
 returns c =
     c .no-form .ensures ∙ ap stored (sym (payment-few _ _ _ _ (c .before .before .before .numbers-at .ensures .0) (c .before .if1 .taken) (c .before .before .before .numbers-at .ensures .1 .1 (c .before .if1 .taken))))
 
--- src/lib.rt:429:9
 who-at-requires : tie.Need-who-at-requires
 who-at-requires c κs = search needs
 
--- src/lib.rt:431:9
 no-form-requires-2 : tie.Need-no-form-requires-2
 no-form-requires-2 c κs = search needs
 
--- src/lib.rt:431:9
 returns-2 : tie.Need-returns-2
 returns-2 c =
     c .no-form2 .ensures ∙ ap stored (sym (payment-nobody _ _ _ _ (c .before .before .before .before .before .before .numbers-at .ensures .0) (le-antisymm (c .before .before .before .before .before .before .numbers-at .ensures .1 .0) (c .before .before .before .before .if1 .left)) (who-lost _ _ (c .before .before .before .who-at .result) (c .before .if2 .taken) (c .before .before .before .who-at .ensures))))
 
--- src/lib.rt:433:9
 numbers-at-requires-2 : tie.Need-numbers-at-requires-2
 numbers-at-requires-2 c κs =
     (who-found _ _ (c .before .before .who-at .result) (c .if2 .left) (c .before .before .who-at .ensures) .within, search needs)
 
--- src/lib.rt:435:9
 no-form-requires-3 : tie.Need-no-form-requires-3
 no-form-requires-3 c κs = search needs
 
--- src/lib.rt:435:9
 returns-3 : tie.Need-returns-3
 returns-3 c =
     c .no-form3 .ensures ∙ ap stored (sym (payment-short _ _ _ _ (c .before .before .before .before .before .before .before .before .before .numbers-at .ensures .0) _ _ _ (who-found _ _ (c .before .before .before .before .before .before .who-at .result) (c .before .before .before .before .if2 .left) (c .before .before .before .before .before .before .who-at .ensures)) _ _ _ (c .before .before .before .numbers-at2 .ensures .0) (le-antisymm (c .before .before .before .before .before .before .before .before .before .numbers-at .ensures .1 .0) (c .before .before .before .before .before .before .before .if1 .left)) (c .before .if3 .taken) (c .before .before .before .numbers-at2 .ensures .1 .1 (c .before .if3 .taken))))
 
--- src/lib.rt:438:9
 no-form-requires-4 : tie.Need-no-form-requires-4
 no-form-requires-4 c κs = search needs
 
--- src/lib.rt:438:9
 returns-4 : tie.Need-returns-4
 returns-4 c =
     c .no-form4 .ensures ∙ ap stored (sym (payment-left _ _ _ _ (c .before .before .before .before .before .before .before .before .before .before .before .numbers-at .ensures .0) _ _ _ (who-found _ _ (c .before .before .before .before .before .before .before .before .who-at .result) (c .before .before .before .before .before .before .if2 .left) (c .before .before .before .before .before .before .before .before .who-at .ensures)) _ _ _ (c .before .before .before .before .before .numbers-at2 .ensures .0) (le-antisymm (c .before .before .before .before .before .before .before .before .before .before .before .numbers-at .ensures .1 .0) (c .before .before .before .before .before .before .before .before .before .if1 .left)) (le-antisymm (c .before .before .before .before .before .numbers-at2 .ensures .1 .0) (c .before .before .before .if3 .left)) (c .before .if4 .taken)))
 
--- src/lib.rt:443:20
 array-read-t16 : tie.Need-array-read-t16
 array-read-t16 c = search needs
 
--- src/lib.rt:444:19
 array-read-t19 : tie.Need-array-read-t19
 array-read-t19 c = search needs
 
--- src/lib.rt:445:24
 array-read-t22 : tie.Need-array-read-t22
 array-read-t22 c = search needs
 
--- src/lib.rt:446:23
 array-read-t25 : tie.Need-array-read-t25
 array-read-t25 c = search needs
 
--- src/lib.rt:447:15
 array-read-t28 : tie.Need-array-read-t28
 array-read-t28 c = search needs
 
--- src/lib.rt:448:17
 array-read-t31 : tie.Need-array-read-t31
 array-read-t31 c = search needs
 
--- src/lib.rt:452:9
 no-lines-requires : tie.Need-no-lines-requires
 no-lines-requires c κs = search needs
 
--- src/lib.rt:421:1
 returns-5 : tie.Need-returns-5
 returns-5 c =
     rw (c .before .no-lines .ensures) (sym (payment-is _ _ _ _ (c .before .before .before .before .before .before .before .before .before .before .before .before .before .before .numbers-at .ensures .0) _ _ _ (who-found _ _ (c .before .before .before .before .before .before .before .before .before .before .before .who-at .result) (c .before .before .before .before .before .before .before .before .before .if2 .left) (c .before .before .before .before .before .before .before .before .before .before .before .who-at .ensures)) _ _ _ (c .before .before .before .before .before .before .before .before .numbers-at2 .ensures .0) (le-antisymm (c .before .before .before .before .before .before .before .before .before .before .before .before .before .before .numbers-at .ensures .1 .0) (c .before .before .before .before .before .before .before .before .before .before .before .before .if1 .left)) (le-antisymm (c .before .before .before .before .before .before .before .before .numbers-at2 .ensures .1 .0) (c .before .before .before .before .before .before .if3 .left)) (c .before .before .before .before .if4 .left)))

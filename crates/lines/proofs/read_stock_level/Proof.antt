@@ -2,7 +2,6 @@ use borrow.Author.Needs.{needs}
 use mathlib.Core.Path.{sym, _∙_, ap}
 use Rattle.model.specs.RequestLine.{stored}
 use Rattle.lines.proofs.Forms.{stock-left, stock-not, stock-is}
-use borrow.Author.Needs.{needs}
 use Rattle.lines.proofs.read_stock_level.Statement.{statement}
 use Rattle.lines.proofs.read_stock_level.Tie as tie
 use Rattle.lines.proofs.read_stock_level.Reads as reads
@@ -11,45 +10,35 @@ use Rattle.lines.proofs.no_form.Reads as no-form-reads
 use Rattle.lines.proofs.numbers_at.Reads as numbers-at-reads
 use Rattle.lines.proofs.plain.Reads as plain-reads
 
--- src/lib.rt:209:9
 numbers-at-requires : tie.Need-numbers-at-requires
 numbers-at-requires c κs = search needs
 
--- src/lib.rt:211:9
 no-form-requires : tie.Need-no-form-requires
 no-form-requires c κs = search needs
 
--- src/lib.rt:211:9
 returns : tie.Need-returns
 returns c =
     c .no-form .ensures ∙ ap stored (sym (stock-left _ _ _ _ (c .before .before .before .numbers-at .ensures .0) (c .before .before .before .numbers-at .ensures .1 .1) (c .before .if1 .taken)))
 
--- src/lib.rt:214:9
 no-form-requires-2 : tie.Need-no-form-requires-2
 no-form-requires-2 c κs = search needs
 
--- src/lib.rt:214:9
 returns-2 : tie.Need-returns-2
 returns-2 c =
     c .no-form2 .ensures ∙ ap stored (sym (stock-not _ _ _ _ (c .before .before .before .before .before .numbers-at .ensures .0) (c .before .before .before .if1 .left) (c .before .if2 .taken)))
 
--- src/lib.rt:218:20
 array-read-t9 : tie.Need-array-read-t9
 array-read-t9 c = search needs
 
--- src/lib.rt:219:19
 array-read-t12 : tie.Need-array-read-t12
 array-read-t12 c = search needs
 
--- src/lib.rt:220:20
 array-read-t15 : tie.Need-array-read-t15
 array-read-t15 c = search needs
 
--- src/lib.rt:222:5
 plain-requires : tie.Need-plain-requires
 plain-requires c κs = search needs
 
--- src/lib.rt:205:1
 returns-3 : tie.Need-returns-3
 unfolding stored
 returns-3 c =

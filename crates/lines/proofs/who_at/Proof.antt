@@ -3,49 +3,39 @@ use mathlib.Core.Path.{sym, subst}
 use Rattle.lines.specs.declared.WhoStep.{WhoStep}
 use Rattle.lines.specs.Fields.{WhoSays}
 use Rattle.lines.proofs.Whos.{who-past, who-says}
-use borrow.Author.Needs.{needs}
 use Rattle.lines.proofs.who_at.Statement.{statement}
 use Rattle.lines.proofs.who_at.Tie as tie
 use Rattle.lines.proofs.who_at.Reads as reads
 use Rattle.lines.proofs.who_at.Lts as lts
-use Rattle.lines.proofs.field_end.Reads as field-end-reads
+use Rattle.text.proofs.field_end.Reads as field-end-reads
 use Rattle.lines.proofs.no_who.Reads as no-who-reads
 use Rattle.lines.proofs.who_of.Reads as who-of-reads
 
--- src/lib.rt:412:9
 no-who-requires : tie.Need-no-who-requires
 no-who-requires c κs = search needs
 
--- src/lib.rt:412:9
 returns : tie.Need-returns
 returns c =
     subst (λ (r : WhoStep). WhoSays (c .before .before .before .args .s .now) (c .before .before .before .args .at) r) (sym (c .no-who .ensures)) (who-past _ _ (c .before .if1 .taken))
 
--- src/lib.rt:414:9
 field-end-requires : tie.Need-field-end-requires
 field-end-requires c κs = search needs
 
--- src/lib.rt:415:12
 sub-who-of : tie.Need-sub-who-of
 sub-who-of c = search needs
 
--- src/lib.rt:415:12
 part-who-of-start : tie.Need-part-who-of-start
 part-who-of-start c = search needs
 
--- src/lib.rt:415:12
 part-who-of-end : tie.Need-part-who-of-end
 part-who-of-end c = search needs
 
--- src/lib.rt:415:23
 add-who-of : tie.Need-add-who-of
 add-who-of c = search needs
 
--- src/lib.rt:415:5
 who-of-requires : tie.Need-who-of-requires
 who-of-requires c κs = search needs
 
--- src/lib.rt:407:1
 returns-2 : tie.Need-returns-2
 returns-2 c =
     subst (λ (r : WhoStep). WhoSays (c .before .before .before .before .before .args .s .now) (c .before .before .before .before .before .args .at) r) (sym (c .who-of .ensures)) (who-says _ _ _ (c .before .before .field-end .ensures))

@@ -7,67 +7,52 @@ use Rattle.lookup.proofs.comes_before.Reads as reads
 use Rattle.lookup.proofs.comes_before.Lts as lts
 use Rattle.lookup.proofs.compare_names.Reads as compare-names-reads
 
--- src/lib.rt:69:22
 sub-compare-names : tie.Need-sub-compare-names
 sub-compare-names c = search needs
 
--- src/lib.rt:69:16
 mul-compare-names : tie.Need-mul-compare-names
 mul-compare-names c = search needs
 
--- src/lib.rt:69:9
 add-compare-names : tie.Need-add-compare-names
 add-compare-names c = search needs
 
--- src/lib.rt:69:9
 add-compare-names-2 : tie.Need-add-compare-names-2
 add-compare-names-2 c = search needs
 
--- src/lib.rt:71:22
 sub-compare-names-2 : tie.Need-sub-compare-names-2
 sub-compare-names-2 c = search needs
 
--- src/lib.rt:71:16
 mul-compare-names-2 : tie.Need-mul-compare-names-2
 mul-compare-names-2 c = search needs
 
--- src/lib.rt:71:9
 add-compare-names-3 : tie.Need-add-compare-names-3
 add-compare-names-3 c = search needs
 
--- src/lib.rt:71:9
 add-compare-names-4 : tie.Need-add-compare-names-4
 add-compare-names-4 c = search needs
 
--- src/lib.rt:67:9
 compare-names-requires : tie.Need-compare-names-requires
 compare-names-requires c κs = search needs
 
--- src/lib.rt:74:32
 enum-told : tie.Need-enum-told
 enum-told c = search needs
 
--- src/lib.rt:75:30
 enum-told-2 : tie.Need-enum-told-2
 enum-told-2 c = search needs
 
--- src/lib.rt:76:31
 enum-told-3 : tie.Need-enum-told-3
 enum-told-3 c = search needs
 
--- src/lib.rt:63:1
 returns : tie.Need-returns
 unfolding beforeFrom
 returns c =
     rw (← c .before .before .compare-names .ensures, c .enum-told .given .1)
 
--- src/lib.rt:63:1
 returns-2 : tie.Need-returns-2
 unfolding beforeFrom
 returns-2 c =
     rw (← c .before .before .compare-names .ensures, c .enum-told2 .given .1)
 
--- src/lib.rt:63:1
 returns-3 : tie.Need-returns-3
 unfolding beforeFrom
 returns-3 c =

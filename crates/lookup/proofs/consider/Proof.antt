@@ -7,29 +7,23 @@ use Rattle.lookup.proofs.consider.Lts as lts
 use Rattle.lookup.proofs.insert_in.Reads as insert-in-reads
 use Rattle.lookup.proofs.is_named.Reads as is-named-reads
 
--- src/lib.rt:152:8
 is-named-requires : tie.Need-is-named-requires
 is-named-requires c κs = search needs
 
--- src/lib.rt:153:9
 insert-in-requires : tie.Need-insert-in-requires
 insert-in-requires c κs =
     (search needs, c .before .before .before .before .before .before .pre .1 .1)
 
--- src/lib.rt:154:16
 add-result : tie.Need-add-result
 add-result c = search needs
 
--- src/lib.rt:154:9
 same-length : tie.Need-same-length
 same-length c = search needs
 
--- src/lib.rt:154:9
 returns : tie.Need-returns
 returns c =
     (search needs, rw (← c .before .before .before .before .before .is-named .ensures, c .before .before .before .before .if1 .taken) (c .before .before .insert-in .ensures))
 
--- src/lib.rt:140:1
 returns-2 : tie.Need-returns-2
 returns-2 c =
     (search needs, rw (← c .before .is-named .ensures, c .if1 .left))

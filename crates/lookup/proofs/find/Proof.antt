@@ -13,61 +13,48 @@ use Rattle.lookup.proofs.gather.Reads as gather-reads
 use Rattle.lookup.proofs.name_base.Reads as name-base-reads
 use Rattle.lookup.proofs.pad.Reads as pad-reads
 
--- src/lib.rt:189:9
 returns : tie.Need-returns
 unfolding found
 returns c =
     rw (lt-leb _ _ (c .if1 .taken))
 
--- src/lib.rt:192:9
 returns-2 : tie.Need-returns-2
 unfolding found
 returns-2 c =
     rw (le-leb _ _ (c .before .if1 .left), lt-leb _ _ (c .if2 .taken))
 
--- src/lib.rt:194:18
 pad-requires : tie.Need-pad-requires
 pad-requires c κs = search needs
 
--- src/lib.rt:195:9
 name-base-requires : tie.Need-name-base-requires
 name-base-requires c κs = search needs
 
--- src/lib.rt:197:46
 slice-aggregate-gather : tie.Need-slice-aggregate-gather
 slice-aggregate-gather c = search needs
 
--- src/lib.rt:197:55
 slice-aggregate-gather-2 : tie.Need-slice-aggregate-gather-2
 slice-aggregate-gather-2 c = search needs
 
--- src/lib.rt:197:9
 gather-requires : tie.Need-gather-requires
 gather-requires c κs = search needs
 
--- src/lib.rt:199:9
 returns-3 : tie.Need-returns-3
 unfolding found
 returns-3 c =
     rw (le-leb _ _ (c .before .before .before .before .before .before .before .before .if1 .left), le-leb _ _ (c .before .before .before .before .before .before .before .if2 .left), ← c .before .before .before .before .before .before .pad .ensures) (taken-none _ _ _ (c .if3 .taken) (c .before .before .gather .ensures .1 ∙ namesakes-from _ _ _ _ (c .before .before .before .before .before .name-base .ensures .0) _))
 
--- src/lib.rt:201:18
 add-place : tie.Need-add-place
 add-place c = search needs
 
--- src/lib.rt:202:27
 sub-t18 : tie.Need-sub-t18
 sub-t18 c = search needs
 
--- src/lib.rt:202:21
 mul-t19 : tie.Need-mul-t19
 mul-t19 c = search needs
 
--- src/lib.rt:202:21
 array-read-t22 : tie.Need-array-read-t22
 array-read-t22 c = search needs
 
--- src/lib.rt:184:1
 returns-4 : tie.Need-returns-4
 unfolding found
 returns-4 c =

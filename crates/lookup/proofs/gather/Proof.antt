@@ -19,37 +19,29 @@ Inv-loop names base count name list₀ n₀ i₀ list n i = (i ≤ count) × ((n
 abbrev μ-loop : tie.MeasureT-loop
 μ-loop names base count name list₀ n₀ i₀ list n i = count - i
 
--- src/lib.rt:165:5
 loop-holds : tie.Need-loop-holds Inv-loop μ-loop
 loop-holds c = search needs
 
--- src/lib.rt:166:57
 add-consider : tie.Need-add-consider Inv-loop μ-loop
 add-consider c = search needs
 
--- src/lib.rt:166:9
 consider-requires : tie.Need-consider-requires Inv-loop μ-loop
 consider-requires c κs =
     (search needs, (search needs, listed (c .before .before .before .before .before .before .args .names .now) (c .before .before .before .before .before .before .args .base) (c .before .before .before .before .before .before .args .count) (namedFrom (c .before .before .before .before .before .before .args .names .now) (c .before .before .before .before .before .before .args .base) (c .before .before .before .before .before .before .args .name .now)) (c .before .before .loop .list) (c .before .before .loop .n) (c .before .before .loop .i) (c .before .before .loop .inv .1 .1 .1) (c .before .before .before .before .before .before .pre .0) (search needs) (c .before .loop-test .taken)))
 
--- src/lib.rt:165:9
 add-i : tie.Need-add-i Inv-loop μ-loop
 add-i c = search needs
 
--- src/lib.rt:165:5
 loop-less : tie.Need-loop-less Inv-loop μ-loop
 loop-less c = search needs
 
--- src/lib.rt:165:5
 loop-again : tie.Need-loop-again Inv-loop μ-loop
 loop-again c =
     (search needs, (search needs, (search needs, rw (sorted-step, ← c .before .before .before .before .before .loop .inv .1 .1 .1) (c .before .before .consider .ensures .1))))
 
--- src/lib.rt:160:1
 same-length : tie.Need-same-length Inv-loop μ-loop
 same-length c = search needs
 
--- src/lib.rt:160:1
 returns : tie.Need-returns Inv-loop μ-loop
 returns c =
     let e : c .before .loop .i ≡ c .before .before .before .before .before .args .count = le-antisymm (c .before .loop .inv .0) (c .loop-test .left) in

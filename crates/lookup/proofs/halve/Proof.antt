@@ -13,23 +13,18 @@ use Rattle.lookup.proofs.halve.Reads as reads
 use Rattle.lookup.proofs.halve.Lts as lts
 use Rattle.lookup.proofs.comes_before.Reads as comes-before-reads
 
--- src/lib.rt:91:25
 sub-mid : tie.Need-sub-mid
 sub-mid c = search needs
 
--- src/lib.rt:91:15
 add-mid : tie.Need-add-mid
 add-mid c = search needs
 
--- src/lib.rt:92:37
 mul-comes-before : tie.Need-mul-comes-before
 mul-comes-before c = search needs
 
--- src/lib.rt:92:37
 shared-slice-read-comes-before : tie.Need-shared-slice-read-comes-before
 shared-slice-read-comes-before c = search needs
 
--- src/lib.rt:92:8
 comes-before-requires : tie.Need-comes-before-requires
 comes-before-requires c κs =
     let m : ℕ = c .before .before .before .before .before .args .at .low + (c .before .before .before .before .before .args .at .high - c .before .before .before .before .before .args .at .low) / 2 in
@@ -37,7 +32,6 @@ comes-before-requires c κs =
     let w : R (c .before .before .before .before .before .args .count) (getD (c .before .before .before .before .before .args .list .now) m 0) = c .before .before .before .before .before .pre .0 .numbers m h in
     omega (arith, w, (c .before .before .before .before .before .pre))
 
--- src/lib.rt:93:9
 returns : tie.Need-returns
 returns c =
     let m : ℕ = c .before .before .before .before .before .before .before .args .at .low + (c .before .before .before .before .before .before .before .args .at .high - c .before .before .before .before .before .before .before .args .at .low) / 2 in
@@ -45,11 +39,9 @@ returns c =
     let k : insertPlace (beforeFrom (c .before .before .before .before .before .before .before .args .names .now) (c .before .before .before .before .before .before .before .args .base)) (c .before .before .before .before .before .before .before .args .c) (take (c .before .before .before .before .before .before .before .args .n) (c .before .before .before .before .before .before .before .args .list .now)) ≤ m = half-low _ _ _ _ _ _ h (c .before .before .before .before .before .before .before .pre .0 .room) (sym (c .before .comes-before .ensures) ∙ c .if1 .taken) in
     omega (arith, k, (c .before .before .before .before .before .before .before .pre))
 
--- src/lib.rt:99:14
 add-t10 : tie.Need-add-t10
 add-t10 c = search needs
 
--- src/lib.rt:87:1
 returns-2 : tie.Need-returns-2
 returns-2 c =
     let m : ℕ = c .before .before .before .before .before .before .before .args .at .low + (c .before .before .before .before .before .before .before .args .at .high - c .before .before .before .before .before .before .before .args .at .low) / 2 in

@@ -9,20 +9,16 @@ use Rattle.lookup.proofs.insert_in.Lts as lts
 use Rattle.lookup.proofs.place_of.Reads as place-of-reads
 use Rattle.lookup.proofs.put_in.Reads as put-in-reads
 
--- src/lib.rt:135:9
 place-of-requires : tie.Need-place-of-requires
 place-of-requires c κs =
     c .before .before .before .pre .1
 
--- src/lib.rt:136:5
 put-in-requires : tie.Need-put-in-requires
 put-in-requires c κs = search needs
 
--- src/lib.rt:131:1
 same-length : tie.Need-same-length
 same-length c = search needs
 
--- src/lib.rt:131:1
 returns : tie.Need-returns
 returns c =
     c .before .before .put-in .ensures ∙ inserted _ _ _ _ _ (c .before .before .before .before .place-of .ensures .1) (c .before .before .before .before .place-of .ensures .0)

@@ -9,45 +9,35 @@ use Rattle.lookup.proofs.is_named.Reads as reads
 use Rattle.lookup.proofs.is_named.Lts as lts
 use Rattle.lookup.proofs.compare_names.Reads as compare-names-reads
 
--- src/lib.rt:54:49
 sub-compare-names : tie.Need-sub-compare-names
 sub-compare-names c = search needs
 
--- src/lib.rt:54:43
 mul-compare-names : tie.Need-mul-compare-names
 mul-compare-names c = search needs
 
--- src/lib.rt:54:36
 add-compare-names : tie.Need-add-compare-names
 add-compare-names c = search needs
 
--- src/lib.rt:54:9
 compare-names-requires : tie.Need-compare-names-requires
 compare-names-requires c κs = search needs
 
--- src/lib.rt:56:32
 enum-told : tie.Need-enum-told
 enum-told c = search needs
 
--- src/lib.rt:57:30
 enum-told-2 : tie.Need-enum-told-2
 enum-told-2 c = search needs
 
--- src/lib.rt:58:31
 enum-told-3 : tie.Need-enum-told-3
 enum-told-3 c = search needs
 
--- src/lib.rt:50:1
 returns : tie.Need-returns
 returns c =
     sym (named-by _ _ _ _ _ (c .before .before .before .before .before .pre .1 .1) (c .before .before .compare-names .ensures) ∙ ap isEqual (c .enum-told .given .1))
 
--- src/lib.rt:50:1
 returns-2 : tie.Need-returns-2
 returns-2 c =
     sym (named-by _ _ _ _ _ (c .before .before .before .before .before .pre .1 .1) (c .before .before .compare-names .ensures) ∙ ap isEqual (c .enum-told2 .given .1))
 
--- src/lib.rt:50:1
 returns-3 : tie.Need-returns-3
 returns-3 c =
     sym (named-by _ _ _ _ _ (c .before .before .before .before .before .pre .1 .1) (c .before .before .compare-names .ensures) ∙ ap isEqual (c .enum-told3 .given .1))

@@ -17,41 +17,32 @@ Inv-loop names p ok₀ i₀ ok i = (i ≤ 32) × (ok ≡ allTo i (byteOkFrom nam
 abbrev μ-loop : tie.MeasureT-loop
 μ-loop names p ok₀ i₀ ok i = 32 - i
 
--- src/lib.rt:229:5
 loop-holds : tie.Need-loop-holds Inv-loop μ-loop
 loop-holds c =
     (search needs, sym (all-none _))
 
--- src/lib.rt:230:34
 add-byte-ok : tie.Need-add-byte-ok Inv-loop μ-loop
 add-byte-ok c = search needs
 
--- src/lib.rt:230:27
 shared-slice-read-byte-ok : tie.Need-shared-slice-read-byte-ok Inv-loop μ-loop
 shared-slice-read-byte-ok c = search needs
 
--- src/lib.rt:230:19
 byte-ok-requires : tie.Need-byte-ok-requires Inv-loop μ-loop
 byte-ok-requires c κs = search needs
 
--- src/lib.rt:229:9
 add-i : tie.Need-add-i Inv-loop μ-loop
 add-i c = search needs
 
--- src/lib.rt:229:5
 loop-less : tie.Need-loop-less Inv-loop μ-loop
 loop-less c = search needs
 
--- src/lib.rt:229:5
 loop-again : tie.Need-loop-again Inv-loop μ-loop
 loop-again c =
     (search needs, byte-step _ _ _ (c .before .before .before .loop .inv .1) (c .byte-ok .ensures))
 
--- src/lib.rt:232:11
 shared-slice-read-result : tie.Need-shared-slice-read-result Inv-loop μ-loop
 shared-slice-read-result c = search needs
 
--- src/lib.rt:224:1
 returns : tie.Need-returns Inv-loop μ-loop
 returns c =
     byte-end _ _ _ (c .before .before .loop .inv .0) (c .before .loop-test .left) (c .before .before .loop .inv .1)

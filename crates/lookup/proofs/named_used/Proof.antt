@@ -6,15 +6,12 @@ use Rattle.lookup.proofs.named_used.Lts as lts
 use Rattle.lookup.proofs.names_used.Reads as names-used-reads
 use Rattle.rows.proofs.customers_used.Reads as customers-used-reads
 
--- src/lib.rt:263:5
 customers-used-requires : tie.Need-customers-used-requires
 customers-used-requires c κs = search needs
 
--- src/lib.rt:263:40
 names-used-requires : tie.Need-names-used-requires
 names-used-requires c κs = search needs
 
--- src/lib.rt:259:1
 returns : tie.Need-returns
 returns c =
     rw (c .before .customers-used .ensures, c .names-used .ensures)

@@ -18,42 +18,33 @@ Inv-loop names base count i₀ i = (i ≤ count) × (allTo i (nameOkFrom names b
 abbrev μ-loop : tie.MeasureT-loop
 μ-loop names base count i₀ i = count - i
 
--- src/lib.rt:241:5
 loop-holds : tie.Need-loop-holds Inv-loop μ-loop
 loop-holds c =
     (search needs, all-none _)
 
--- src/lib.rt:242:35
 mul-name-ok : tie.Need-mul-name-ok Inv-loop μ-loop
 mul-name-ok c = search needs
 
--- src/lib.rt:242:28
 add-name-ok : tie.Need-add-name-ok Inv-loop μ-loop
 add-name-ok c = search needs
 
--- src/lib.rt:242:13
 name-ok-requires : tie.Need-name-ok-requires Inv-loop μ-loop
 name-ok-requires c κs = search needs
 
--- src/lib.rt:243:13
 returns : tie.Need-returns Inv-loop μ-loop
 returns c =
     run-left (c .before .before .before .before .before .args .names .now) (c .before .before .before .before .before .args .base) (c .before .before .loop-test .taken) (c .before .name-ok .ensures) (c .if1 .taken)
 
--- src/lib.rt:245:9
 add-i : tie.Need-add-i Inv-loop μ-loop
 add-i c = search needs
 
--- src/lib.rt:241:5
 loop-less : tie.Need-loop-less Inv-loop μ-loop
 loop-less c = search needs
 
--- src/lib.rt:241:5
 loop-again : tie.Need-loop-again Inv-loop μ-loop
 loop-again c =
     (search needs, run-again (c .before .before .before .before .before .args .names .now) (c .before .before .before .before .before .args .base) (c .before .before .before .loop .i) (c .before .before .before .loop .inv .1) (c .before .name-ok .ensures) (c .if1 .left))
 
--- src/lib.rt:236:1
 returns-2 : tie.Need-returns-2 Inv-loop μ-loop
 returns-2 c =
     run-end (c .before .before .before .args .names .now) (c .before .before .before .args .base) (c .before .loop .inv .0) (c .loop-test .left) (c .before .loop .inv .1)

@@ -9,15 +9,12 @@ use Rattle.lookup.proofs.names_used.Lts as lts
 use Rattle.lookup.proofs.name_base.Reads as name-base-reads
 use Rattle.lookup.proofs.names_ok.Reads as names-ok-reads
 
--- src/lib.rt:255:21
 name-base-requires : tie.Need-name-base-requires
 name-base-requires c κs = search needs
 
--- src/lib.rt:255:5
 names-ok-requires : tie.Need-names-ok-requires
 names-ok-requires c κs = search needs
 
--- src/lib.rt:251:1
 returns : tie.Need-returns
 returns c =
     c .names-ok .ensures ∙ names-from _ _ _ _ (c .before .name-base .ensures .0)

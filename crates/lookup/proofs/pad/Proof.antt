@@ -15,33 +15,26 @@ Inv-loop wanted name₀ i₀ i-end name i = (i ≤ length wanted) × ((i-end ≡
 abbrev μ-loop : tie.MeasureT-loop
 μ-loop wanted name₀ i₀ i-end name i = i-end - i
 
--- src/lib.rt:177:5
 loop-holds : tie.Need-loop-holds Inv-loop μ-loop
 loop-holds c =
     (search needs, (search needs, (search needs, paste-zero (replicate 16 32) 0 (c .args .wanted .now))))
 
--- src/lib.rt:178:19
 shared-slice-read-name : tie.Need-shared-slice-read-name Inv-loop μ-loop
 shared-slice-read-name c = search needs
 
--- src/lib.rt:178:9
 array-write-name : tie.Need-array-write-name Inv-loop μ-loop
 array-write-name c = search needs
 
--- src/lib.rt:177:9
 add-i : tie.Need-add-i Inv-loop μ-loop
 add-i c = search needs
 
--- src/lib.rt:177:5
 loop-less : tie.Need-loop-less Inv-loop μ-loop
 loop-less c = search needs
 
--- src/lib.rt:177:5
 loop-again : tie.Need-loop-again Inv-loop μ-loop
 loop-again c =
     (search needs, (search needs, (simp length-set (search needs), pad-step _ _ _ (search needs) (search needs) (c .before .before .loop .inv .1 .1 .1))))
 
--- src/lib.rt:172:1
 returns : tie.Need-returns Inv-loop μ-loop
 returns c =
     c .before .loop .inv .1 .1 .1 ∙ pad-whole _ _ (c .before .loop .inv .0) (search needs)

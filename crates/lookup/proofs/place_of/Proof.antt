@@ -16,27 +16,22 @@ Inv-loop names base count list n c at₀ at = Holds names base list n c at
 abbrev μ-loop : tie.MeasureT-loop
 μ-loop names base count list n c at₀ at = at .high - at .low
 
--- src/lib.rt:110:5
 loop-holds : tie.Need-loop-holds Inv-loop μ-loop
 loop-holds c =
     record { from = search needs; to = place-within _ _ _ _ _ (c .before .before .pre .room); within = search needs }
 
--- src/lib.rt:111:9
 halve-requires : tie.Need-halve-requires Inv-loop μ-loop
 halve-requires c κs =
     ((c .before .before .before .before .before .pre), (c .if1 .taken, c .before .before .loop .inv))
 
--- src/lib.rt:110:5
 loop-less : tie.Need-loop-less Inv-loop μ-loop
 loop-less c =
     c .halve .ensures .0
 
--- src/lib.rt:110:5
 loop-again : tie.Need-loop-again Inv-loop μ-loop
 loop-again c =
     c .halve .ensures .1
 
--- src/lib.rt:105:1
 returns : tie.Need-returns Inv-loop μ-loop
 returns c =
     (le-antisymm (c .before .before .loop .inv .from) (omega (arith, c .before .before .loop .inv .to, c .if1 .left)), omega (arith, c .before .before .loop .inv .to, c .before .before .loop .inv, c .if1 .left))

@@ -15,53 +15,41 @@ Inv-loop list₀ n p c x₀ i₀ list x i = (i ≤ n) × ((length list ≡ lengt
 abbrev μ-loop : tie.MeasureT-loop
 μ-loop list₀ n p c x₀ i₀ list x i = n - i
 
--- src/lib.rt:122:5
 loop-holds : tie.Need-loop-holds Inv-loop μ-loop
 loop-holds c = search needs
 
--- src/lib.rt:123:17
 mul-y : tie.Need-mul-y Inv-loop μ-loop
 mul-y c = search needs
 
--- src/lib.rt:123:17
 slice-read-y : tie.Need-slice-read-y Inv-loop μ-loop
 slice-read-y c = search needs
 
--- src/lib.rt:124:9
 mul-list : tie.Need-mul-list Inv-loop μ-loop
 mul-list c = search needs
 
--- src/lib.rt:124:9
 slice-write-list : tie.Need-slice-write-list Inv-loop μ-loop
 slice-write-list c = search needs
 
--- src/lib.rt:122:9
 add-i : tie.Need-add-i Inv-loop μ-loop
 add-i c = search needs
 
--- src/lib.rt:122:5
 loop-less : tie.Need-loop-less Inv-loop μ-loop
 loop-less c = search needs
 
--- src/lib.rt:122:5
 loop-again : tie.Need-loop-again Inv-loop μ-loop
 loop-again c =
     (search needs, (simp length-set (search needs), (carry-rest (c .before .before .before .args .list .now) (c .before .before .loop .list) (c .before .before .loop .i) (c .before .before .loop .x) (c .before .before .loop .inv .1 .1 .0), carry-step (c .before .before .before .args .list .now) (c .before .before .loop .list) (c .before .before .before .args .n) (c .before .before .loop .i) (c .before .before .loop .x) (c .before .loop-test .taken) (search needs) (c .before .before .loop .inv .1 .0) (c .before .before .loop .inv .1 .1 .0) ∙ c .before .before .loop .inv .1 .1 .1)))
 
--- src/lib.rt:127:5
 mul-list-2 : tie.Need-mul-list-2 Inv-loop μ-loop
 mul-list-2 c = search needs
 
--- src/lib.rt:127:5
 slice-write-list-2 : tie.Need-slice-write-list-2 Inv-loop μ-loop
 slice-write-list-2 c = search needs
 
--- src/lib.rt:117:1
 same-length : tie.Need-same-length Inv-loop μ-loop
 same-length c =
     simp length-set (search needs)
 
--- src/lib.rt:117:1
 returns : tie.Need-returns Inv-loop μ-loop
 returns c =
     carry-end (c .before .before .args .list .now) (c .before .loop .list) _ (c .before .before .args .n) (c .before .loop .i) (c .before .loop .x) (c .before .loop .inv .0) (c .loop-test .left) (search needs) (c .before .loop .inv .1 .0) (c .before .loop .inv .1 .1 .1)

@@ -4,24 +4,24 @@ use Rattle.lookup.proofs.who_ok.Statement.{statement}
 use Rattle.lookup.proofs.who_ok.Tie as tie
 use Rattle.lookup.proofs.who_ok.Reads as reads
 use Rattle.lookup.proofs.who_ok.Lts as lts
+use Rattle.cells.proofs.within.Reads as within-reads
 
--- src/lib.rt:264:27
 enum-known-who : tie.Need-enum-known-who
 enum-known-who c = search needs
 
--- src/lib.rt:265:32
+within-requires : tie.Need-within-requires
+within-requires c κs = search needs
+
 enum-told : tie.Need-enum-told
 enum-told c = search needs
 
--- src/lib.rt:260:1
 returns : tie.Need-returns
 returns c =
-    rw (c .before .before .who .given .1)
+    rw (c .before .before .who .given .1) (c .within .ensures)
 
--- src/lib.rt:260:1
 returns-2 : tie.Need-returns-2
 returns-2 c =
     rw (c .enum-told .given .1)
 
 pub who-ok-spec : {M : Type 1} → statement M
-who-ok-spec = tie.close (tie.spec enum-known-who enum-told returns returns-2)
+who-ok-spec = tie.close (tie.spec enum-known-who within-requires enum-told returns returns-2)

@@ -12,34 +12,28 @@ use Rattle.opening.proofs.items_used.Reads as items-used-reads
 use Rattle.opening.proofs.warehouses_new.Reads as warehouses-new-reads
 use Rattle.rows.proofs.history_count.Reads as history-count-reads
 
--- src/lib.rt:183:9
 history-count-requires : tie.Need-history-count-requires
 history-count-requires c κs =
     c .before .pre .six
 
--- src/lib.rt:185:9
 returns : tie.Need-returns
 unfolding bookNew
 returns c =
     let n : (c .before .history-count .result ≡ 0 → ⊥) = λ e. omega (arith, e, c .if1 .taken) in rw (← c .before .history-count .ensures, ne-eqb (c .before .history-count .result) 0 n)
 
--- src/lib.rt:187:9
 warehouses-new-requires : tie.Need-warehouses-new-requires
 warehouses-new-requires c κs =
     (c .before .before .before .pre)
 
--- src/lib.rt:188:9
 returns-2 : tie.Need-returns-2
 unfolding bookNew
 returns-2 c =
     let z : c .before .before .before .history-count .result ≡ 0 = omega (arith, c .before .before .if1 .left) in rw (← c .before .before .before .history-count .ensures, eq-eqb (c .before .before .before .history-count .result) 0 z, ← c .before .warehouses-new .ensures, not-true (c .before .warehouses-new .result) (c .if2 .taken))
 
--- src/lib.rt:190:5
 items-used-requires : tie.Need-items-used-requires
 items-used-requires c κs =
     shaped-booked (c .before .before .before .before .before .pre)
 
--- src/lib.rt:179:1
 returns-3 : tie.Need-returns-3
 unfolding bookNew
 returns-3 c =

@@ -13,39 +13,32 @@ use Rattle.lookup.proofs.names_used.Reads as names-used-reads
 use Rattle.opening.proofs.new_customers.Reads as new-customers-reads
 use Rattle.opening.proofs.new_district.Reads as new-district-reads
 
--- src/lib.rt:123:9
 district-at-requires : tie.Need-district-at-requires
 district-at-requires c κs =
     (c .before .pre .0 .dimsd, c .before .pre .1)
 
--- src/lib.rt:124:9
 new-district-requires : tie.Need-new-district-requires
 new-district-requires c κs =
     omega (arith, c .district-at .ensures, c .before .before .pre .0 .long)
 
--- src/lib.rt:125:9
 returns : tie.Need-returns
 unfolding districtNew
 returns c =
     rw (← district-row (c .before .before .before .before .args .d) (c .before .before .before .before .args .b .now) (c .before .before .before .before .args .w) (c .before .before .before .before .args .k) (c .before .before .district-at .ensures .0) (c .before .new-district .ensures), not-true (c .before .new-district .result) (c .if1 .taken))
 
--- src/lib.rt:127:9
 new-customers-requires : tie.Need-new-customers-requires
 new-customers-requires c κs =
     (shaped-booked (c .before .before .before .before .pre .0), c .before .before .before .before .pre .1)
 
--- src/lib.rt:128:9
 returns-2 : tie.Need-returns-2
 unfolding districtNew
 returns-2 c =
     rw (← district-row (c .before .before .before .before .before .before .args .d) (c .before .before .before .before .before .before .args .b .now) (c .before .before .before .before .before .before .args .w) (c .before .before .before .before .before .before .args .k) (c .before .before .before .before .district-at .ensures .0) (c .before .before .before .new-district .ensures), not-false (c .before .before .before .new-district .result) (c .before .before .if1 .left), ← c .before .new-customers .ensures, not-true (c .before .new-customers .result) (c .if2 .taken))
 
--- src/lib.rt:130:5
 names-used-requires : tie.Need-names-used-requires
 names-used-requires c κs =
     (c .before .before .before .before .before .before .pre .0 .dimsd, (c .before .before .before .before .before .before .pre .1 .0, (c .before .before .before .before .before .before .pre .1 .1, c .before .before .before .before .before .before .pre .0 .names)))
 
--- src/lib.rt:119:1
 returns-3 : tie.Need-returns-3
 unfolding districtNew
 returns-3 c =

@@ -19,39 +19,31 @@ Inv-loop b names d w i₀ i = (i ≤ 10) × (allTo i (districtNew d b names w) �
 abbrev μ-loop : tie.MeasureT-loop
 μ-loop b names d w i₀ i = 10 - i
 
--- src/lib.rt:139:5
 loop-holds : tie.Need-loop-holds Inv-loop μ-loop
 loop-holds c =
     (search needs, all-none (districtNew (c .before .args .d) (c .before .args .b .now) (c .before .args .names .now) (c .before .args .w)))
 
--- src/lib.rt:140:42
 add-district-new : tie.Need-add-district-new Inv-loop μ-loop
 add-district-new c = search needs
 
--- src/lib.rt:140:13
 district-new-requires : tie.Need-district-new-requires Inv-loop μ-loop
 district-new-requires c κs =
     (c .before .before .before .pre .0, (c .before .before .before .pre .1, record { lo = omega arith; hi = omega (arith, c .loop-test .taken) }))
 
--- src/lib.rt:141:13
 returns : tie.Need-returns Inv-loop μ-loop
 returns c =
     all-left (districtNew (c .before .before .before .before .before .args .d) (c .before .before .before .before .before .args .b .now) (c .before .before .before .before .before .args .names .now) (c .before .before .before .before .before .args .w)) (10) (c .before .before .before .loop .i) (c .before .before .loop-test .taken) (c .before .district-new .ensures) (c .if1 .taken)
 
--- src/lib.rt:143:9
 add-i : tie.Need-add-i Inv-loop μ-loop
 add-i c = search needs
 
--- src/lib.rt:139:5
 loop-less : tie.Need-loop-less Inv-loop μ-loop
 loop-less c = search needs
 
--- src/lib.rt:139:5
 loop-again : tie.Need-loop-again Inv-loop μ-loop
 loop-again c =
     (search needs, all-again (districtNew (c .before .before .before .before .before .args .d) (c .before .before .before .before .before .args .b .now) (c .before .before .before .before .before .args .names .now) (c .before .before .before .before .before .args .w)) (c .before .before .before .loop .i) (c .before .before .before .loop .inv .1) (c .before .district-new .ensures) (c .if1 .left))
 
--- src/lib.rt:134:1
 returns-2 : tie.Need-returns-2 Inv-loop μ-loop
 returns-2 c =
     all-end (districtNew (c .before .before .before .args .d) (c .before .before .before .args .b .now) (c .before .before .before .args .names .now) (c .before .before .before .args .w)) (c .before .loop .inv .0) (c .loop-test .left) (c .before .loop .inv .1)

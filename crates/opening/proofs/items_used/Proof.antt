@@ -22,44 +22,35 @@ Inv-loop b d base i₀ i = (i ≤ d .items) × (allTo i (itemUsed d b) ≡ true)
 abbrev μ-loop : tie.MeasureT-loop
 μ-loop b d base i₀ i = d .items - i
 
--- src/lib.rt:107:9
 item-at-requires : tie.Need-item-at-requires Inv-loop μ-loop
 item-at-requires c κs = search needs
 
--- src/lib.rt:109:5
 loop-holds : tie.Need-loop-holds Inv-loop μ-loop
 loop-holds c =
     (search needs, all-none (itemUsed (c .before .args .d) (c .before .args .b .now)))
 
--- src/lib.rt:110:30
 add-item-ok : tie.Need-add-item-ok Inv-loop μ-loop
 add-item-ok c =
     omega (arith, item-run (c .before .before .before .before .args .d) (c .before .before .loop .i) (c .if1 .taken), (c .before .before .before .before .pre), c .before .before .before .item-at .ensures)
 
--- src/lib.rt:110:13
 item-ok-requires : tie.Need-item-ok-requires Inv-loop μ-loop
 item-ok-requires c κs =
     omega (arith, item-run (c .before .before .before .before .args .d) (c .before .before .loop .i) (c .if1 .taken), (c .before .before .before .before .pre), c .before .before .before .item-at .ensures)
 
--- src/lib.rt:111:13
 returns : tie.Need-returns Inv-loop μ-loop
 returns c =
     all-left (itemUsed (c .before .before .before .before .before .before .args .d) (c .before .before .before .before .before .before .args .b .now)) (c .before .before .before .before .before .before .args .d .items) (c .before .before .before .before .loop .i) (c .before .before .if1 .taken) (item-used (c .before .before .before .before .before .before .args .d) (c .before .before .before .before .before .before .args .b .now) (c .before .before .before .before .loop .i) (c .before .before .if1 .taken) (c .before .before .before .before .before .item-at .ensures .0) (c .before .item-ok .ensures)) (c .if2 .taken)
 
--- src/lib.rt:113:9
 add-i : tie.Need-add-i Inv-loop μ-loop
 add-i c = search needs
 
--- src/lib.rt:109:5
 loop-less : tie.Need-loop-less Inv-loop μ-loop
 loop-less c = search needs
 
--- src/lib.rt:109:5
 loop-again : tie.Need-loop-again Inv-loop μ-loop
 loop-again c =
     (search needs, all-again (itemUsed (c .before .before .before .before .before .before .args .d) (c .before .before .before .before .before .before .args .b .now)) (c .before .before .before .before .loop .i) (c .before .before .before .before .loop .inv .1) (item-used (c .before .before .before .before .before .before .args .d) (c .before .before .before .before .before .before .args .b .now) (c .before .before .before .before .loop .i) (c .before .before .if1 .taken) (c .before .before .before .before .before .item-at .ensures .0) (c .before .item-ok .ensures)) (c .if2 .left))
 
--- src/lib.rt:103:1
 returns-2 : tie.Need-returns-2 Inv-loop μ-loop
 returns-2 c =
     all-end (itemUsed (c .before .before .before .before .args .d) (c .before .before .before .before .args .b .now)) (c .before .before .loop .inv .0) (c .if1 .left) (c .before .before .loop .inv .1)

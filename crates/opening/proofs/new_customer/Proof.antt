@@ -9,51 +9,39 @@ use Rattle.opening.proofs.new_customer.Reads as reads
 use Rattle.opening.proofs.new_customer.Lts as lts
 use Rattle.cells.proofs.get.Reads as get-reads
 
--- src/lib.rt:44:9
 get-requires : tie.Need-get-requires
 get-requires c κs = search needs
 
--- src/lib.rt:45:34
 add-get : tie.Need-add-get
 add-get c = search needs
 
--- src/lib.rt:45:9
 get-requires-2 : tie.Need-get-requires-2
 get-requires-2 c κs = search needs
 
--- src/lib.rt:46:33
 add-get-2 : tie.Need-add-get-2
 add-get-2 c = search needs
 
--- src/lib.rt:46:9
 get-requires-3 : tie.Need-get-requires-3
 get-requires-3 c κs = search needs
 
--- src/lib.rt:47:30
 add-get-3 : tie.Need-add-get-3
 add-get-3 c = search needs
 
--- src/lib.rt:47:9
 get-requires-4 : tie.Need-get-requires-4
 get-requires-4 c κs = search needs
 
--- src/lib.rt:48:34
 add-get-4 : tie.Need-add-get-4
 add-get-4 c = search needs
 
--- src/lib.rt:48:9
 get-requires-5 : tie.Need-get-requires-5
 get-requires-5 c κs = search needs
 
--- src/lib.rt:49:36
 add-get-5 : tie.Need-add-get-5
 add-get-5 c = search needs
 
--- src/lib.rt:49:9
 get-requires-6 : tie.Need-get-requires-6
 get-requires-6 c κs = search needs
 
--- src/lib.rt:40:1
 returns : tie.Need-returns
 unfolding newCustomer from cell
 returns c =

@@ -22,49 +22,39 @@ Inv-loop b d w k base i₀ i = (i ≤ d .customers) × (allTo i (customerNew d b
 abbrev μ-loop : tie.MeasureT-loop
 μ-loop b d w k base i₀ i = d .customers - i
 
--- src/lib.rt:75:9
 customer-at-requires : tie.Need-customer-at-requires Inv-loop μ-loop
 customer-at-requires c κs = search needs
 
--- src/lib.rt:77:5
 loop-holds : tie.Need-loop-holds Inv-loop μ-loop
 loop-holds c =
     (search needs, all-none (customerNew (c .before .args .d) (c .before .args .b .now) (c .before .args .w) (c .before .args .k)))
 
--- src/lib.rt:78:36
 mul-new-customer : tie.Need-mul-new-customer Inv-loop μ-loop
 mul-new-customer c =
     omega (arith, customer-run (c .before .before .before .before .args .d) (c .before .before .before .before .args .w) (c .before .before .before .before .args .k) (c .before .before .loop .i) (c .before .before .before .before .pre .1 .0) (c .before .before .before .before .pre .1 .1) (c .if1 .taken), c .before .before .before .before .pre .0 .dimsd)
 
--- src/lib.rt:78:29
 add-new-customer : tie.Need-add-new-customer Inv-loop μ-loop
 add-new-customer c =
     omega (arith, customer-run (c .before .before .before .before .args .d) (c .before .before .before .before .args .w) (c .before .before .before .before .args .k) (c .before .before .loop .i) (c .before .before .before .before .pre .1 .0) (c .before .before .before .before .pre .1 .1) (c .if1 .taken), c .before .before .before .before .pre .0, c .before .before .before .customer-at .ensures)
 
--- src/lib.rt:78:13
 new-customer-requires : tie.Need-new-customer-requires Inv-loop μ-loop
 new-customer-requires c κs =
     omega (arith, customer-run (c .before .before .before .before .args .d) (c .before .before .before .before .args .w) (c .before .before .before .before .args .k) (c .before .before .loop .i) (c .before .before .before .before .pre .1 .0) (c .before .before .before .before .pre .1 .1) (c .if1 .taken), c .before .before .before .before .pre .0, c .before .before .before .customer-at .ensures)
 
--- src/lib.rt:79:13
 returns : tie.Need-returns Inv-loop μ-loop
 returns c =
     all-left (customerNew (c .before .before .before .before .before .before .args .d) (c .before .before .before .before .before .before .args .b .now) (c .before .before .before .before .before .before .args .w) (c .before .before .before .before .before .before .args .k)) (c .before .before .before .before .before .before .args .d .customers) (c .before .before .before .before .loop .i) (c .before .before .if1 .taken) (customer-new (c .before .before .before .before .before .before .args .d) (c .before .before .before .before .before .before .args .b .now) (c .before .before .before .before .before .before .args .w) (c .before .before .before .before .before .before .args .k) (c .before .before .before .before .loop .i) (c .before .before .before .before .before .before .pre .1 .0) (c .before .before .before .before .before .before .pre .1 .1) (c .before .before .if1 .taken) (c .before .before .before .before .before .customer-at .ensures .0) (c .before .new-customer .ensures)) (c .if2 .taken)
 
--- src/lib.rt:81:9
 add-i : tie.Need-add-i Inv-loop μ-loop
 add-i c = search needs
 
--- src/lib.rt:77:5
 loop-less : tie.Need-loop-less Inv-loop μ-loop
 loop-less c = search needs
 
--- src/lib.rt:77:5
 loop-again : tie.Need-loop-again Inv-loop μ-loop
 loop-again c =
     (search needs, all-again (customerNew (c .before .before .before .before .before .before .args .d) (c .before .before .before .before .before .before .args .b .now) (c .before .before .before .before .before .before .args .w) (c .before .before .before .before .before .before .args .k)) (c .before .before .before .before .loop .i) (c .before .before .before .before .loop .inv .1) (customer-new (c .before .before .before .before .before .before .args .d) (c .before .before .before .before .before .before .args .b .now) (c .before .before .before .before .before .before .args .w) (c .before .before .before .before .before .before .args .k) (c .before .before .before .before .loop .i) (c .before .before .before .before .before .before .pre .1 .0) (c .before .before .before .before .before .before .pre .1 .1) (c .before .before .if1 .taken) (c .before .before .before .before .before .customer-at .ensures .0) (c .before .new-customer .ensures)) (c .if2 .left))
 
--- src/lib.rt:71:1
 returns-2 : tie.Need-returns-2 Inv-loop μ-loop
 returns-2 c =
     all-end (customerNew (c .before .before .before .before .args .d) (c .before .before .before .before .args .b .now) (c .before .before .before .before .args .w) (c .before .before .before .before .args .k)) (c .before .before .loop .inv .0) (c .if1 .left) (c .before .before .loop .inv .1)

@@ -9,27 +9,21 @@ use Rattle.opening.proofs.new_district.Reads as reads
 use Rattle.opening.proofs.new_district.Lts as lts
 use Rattle.cells.proofs.get.Reads as get-reads
 
--- src/lib.rt:33:9
 get-requires : tie.Need-get-requires
 get-requires c κs = search needs
 
--- src/lib.rt:34:29
 add-get : tie.Need-add-get
 add-get c = search needs
 
--- src/lib.rt:34:9
 get-requires-2 : tie.Need-get-requires-2
 get-requires-2 c κs = search needs
 
--- src/lib.rt:35:30
 add-get-2 : tie.Need-add-get-2
 add-get-2 c = search needs
 
--- src/lib.rt:35:9
 get-requires-3 : tie.Need-get-requires-3
 get-requires-3 c κs = search needs
 
--- src/lib.rt:29:1
 returns : tie.Need-returns
 unfolding newDistrict from cell
 returns c =

@@ -9,35 +9,27 @@ use Rattle.opening.proofs.new_stock.Reads as reads
 use Rattle.opening.proofs.new_stock.Lts as lts
 use Rattle.cells.proofs.get.Reads as get-reads
 
--- src/lib.rt:63:9
 get-requires : tie.Need-get-requires
 get-requires c κs = search needs
 
--- src/lib.rt:64:29
 add-get : tie.Need-add-get
 add-get c = search needs
 
--- src/lib.rt:64:9
 get-requires-2 : tie.Need-get-requires-2
 get-requires-2 c κs = search needs
 
--- src/lib.rt:65:32
 add-get-2 : tie.Need-add-get-2
 add-get-2 c = search needs
 
--- src/lib.rt:65:9
 get-requires-3 : tie.Need-get-requires-3
 get-requires-3 c κs = search needs
 
--- src/lib.rt:66:33
 add-get-3 : tie.Need-add-get-3
 add-get-3 c = search needs
 
--- src/lib.rt:66:9
 get-requires-4 : tie.Need-get-requires-4
 get-requires-4 c κs = search needs
 
--- src/lib.rt:59:1
 returns : tie.Need-returns
 unfolding newStock from cell
 returns c =

@@ -22,49 +22,39 @@ Inv-loop b d w base i₀ i = (i ≤ d .items) × (allTo i (stockNew d b w) ≡ t
 abbrev μ-loop : tie.MeasureT-loop
 μ-loop b d w base i₀ i = d .items - i
 
--- src/lib.rt:91:9
 stock-at-requires : tie.Need-stock-at-requires Inv-loop μ-loop
 stock-at-requires c κs = search needs
 
--- src/lib.rt:93:5
 loop-holds : tie.Need-loop-holds Inv-loop μ-loop
 loop-holds c =
     (search needs, all-none (stockNew (c .before .args .d) (c .before .args .b .now) (c .before .args .w)))
 
--- src/lib.rt:94:33
 mul-new-stock : tie.Need-mul-new-stock Inv-loop μ-loop
 mul-new-stock c =
     omega (arith, stock-run (c .before .before .before .before .args .d) (c .before .before .before .before .args .w) (c .before .before .loop .i) (c .before .before .before .before .pre .1) (c .if1 .taken), c .before .before .before .before .pre .0 .dimsd)
 
--- src/lib.rt:94:26
 add-new-stock : tie.Need-add-new-stock Inv-loop μ-loop
 add-new-stock c =
     omega (arith, stock-run (c .before .before .before .before .args .d) (c .before .before .before .before .args .w) (c .before .before .loop .i) (c .before .before .before .before .pre .1) (c .if1 .taken), c .before .before .before .before .pre .0, c .before .before .before .stock-at .ensures)
 
--- src/lib.rt:94:13
 new-stock-requires : tie.Need-new-stock-requires Inv-loop μ-loop
 new-stock-requires c κs =
     omega (arith, stock-run (c .before .before .before .before .args .d) (c .before .before .before .before .args .w) (c .before .before .loop .i) (c .before .before .before .before .pre .1) (c .if1 .taken), c .before .before .before .before .pre .0, c .before .before .before .stock-at .ensures)
 
--- src/lib.rt:95:13
 returns : tie.Need-returns Inv-loop μ-loop
 returns c =
     all-left (stockNew (c .before .before .before .before .before .before .args .d) (c .before .before .before .before .before .before .args .b .now) (c .before .before .before .before .before .before .args .w)) (c .before .before .before .before .before .before .args .d .items) (c .before .before .before .before .loop .i) (c .before .before .if1 .taken) (stock-new (c .before .before .before .before .before .before .args .d) (c .before .before .before .before .before .before .args .b .now) (c .before .before .before .before .before .before .args .w) (c .before .before .before .before .loop .i) (c .before .before .before .before .before .before .pre .1) (c .before .before .if1 .taken) (c .before .before .before .before .before .stock-at .ensures .0) (c .before .new-stock .ensures)) (c .if2 .taken)
 
--- src/lib.rt:97:9
 add-i : tie.Need-add-i Inv-loop μ-loop
 add-i c = search needs
 
--- src/lib.rt:93:5
 loop-less : tie.Need-loop-less Inv-loop μ-loop
 loop-less c = search needs
 
--- src/lib.rt:93:5
 loop-again : tie.Need-loop-again Inv-loop μ-loop
 loop-again c =
     (search needs, all-again (stockNew (c .before .before .before .before .before .before .args .d) (c .before .before .before .before .before .before .args .b .now) (c .before .before .before .before .before .before .args .w)) (c .before .before .before .before .loop .i) (c .before .before .before .before .loop .inv .1) (stock-new (c .before .before .before .before .before .before .args .d) (c .before .before .before .before .before .before .args .b .now) (c .before .before .before .before .before .before .args .w) (c .before .before .before .before .loop .i) (c .before .before .before .before .before .before .pre .1) (c .before .before .if1 .taken) (c .before .before .before .before .before .stock-at .ensures .0) (c .before .new-stock .ensures)) (c .if2 .left))
 
--- src/lib.rt:87:1
 returns-2 : tie.Need-returns-2 Inv-loop μ-loop
 returns-2 c =
     all-end (stockNew (c .before .before .before .before .args .d) (c .before .before .before .before .args .b .now) (c .before .before .before .before .args .w)) (c .before .before .loop .inv .0) (c .if1 .left) (c .before .before .loop .inv .1)

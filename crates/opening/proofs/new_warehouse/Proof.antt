@@ -9,19 +9,15 @@ use Rattle.opening.proofs.new_warehouse.Reads as reads
 use Rattle.opening.proofs.new_warehouse.Lts as lts
 use Rattle.cells.proofs.get.Reads as get-reads
 
--- src/lib.rt:23:9
 get-requires : tie.Need-get-requires
 get-requires c κs = search needs
 
--- src/lib.rt:24:29
 add-get : tie.Need-add-get
 add-get c = search needs
 
--- src/lib.rt:24:9
 get-requires-2 : tie.Need-get-requires-2
 get-requires-2 c κs = search needs
 
--- src/lib.rt:19:1
 returns : tie.Need-returns
 unfolding newWarehouse from cell
 returns c =

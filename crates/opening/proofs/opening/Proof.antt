@@ -1,50 +1,79 @@
-use Rattle.model.proofs.Fields.{head-shaped}
-use Rattle.model.specs.Opening.{openingFault, openingAnswer}
 use lib.ListN.{length}
+use mathlib.Core.Bool.{true, false}
+use borrow.Author.Tests.{not-true, not-false}
+use Rattle.model.specs.Answer.{refused}
+use Rattle.model.specs.Head.{headOk, dims}
+use Rattle.model.specs.Opening.{openingFault, openingAnswer, bookNew}
+use Rattle.layout.proofs.Heads.{head-read, head-damaged}
 use Prim.Native.Nat.{_-_}
-use mathlib.Core.Path.{sym, _∙_}
+use mathlib.Core.Path.{_≡_, sym, ap, _∙_}
 use borrow.Author.Needs.{needs}
 use Rattle.opening.proofs.opening.Statement.{statement}
 use Rattle.opening.proofs.opening.Tie as tie
 use Rattle.opening.proofs.opening.Reads as reads
 use Rattle.opening.proofs.opening.Lts as lts
-use Rattle.layout.proofs.dims_of.Reads as dims-of-reads
-use Rattle.layout.proofs.head_ok.Reads as head-ok-reads
+use Rattle.cells.proofs.refused.Reads as refused-reads
+use Rattle.layout.proofs.head_of.Reads as head-of-reads
 use Rattle.opening.proofs.book_new.Reads as book-new-reads
+use Rattle.opening.proofs.turned_away.Reads as turned-away-reads
 
--- src/lib.rt:197:8
-head-ok-requires : tie.Need-head-ok-requires
-head-ok-requires c κs = search needs
+head-of-requires : tie.Need-head-of-requires
+head-of-requires c κs = search needs
 
--- src/lib.rt:198:13
-dims-of-requires : tie.Need-dims-of-requires
-dims-of-requires c κs =
-    head-shaped (c .before .before .before .args .b .now) (length (c .before .before .before .args .names .now)) (sym (c .before .head-ok .ensures) ∙ c .if1 .taken) .six
+enum-known-d : tie.Need-enum-known-d
+enum-known-d c = search needs
 
--- src/lib.rt:199:12
-book-new-requires : tie.Need-book-new-requires
-book-new-requires c κs =
-    rw (c .dims-of .ensures) (head-shaped (c .before .before .before .before .args .b .now) (length (c .before .before .before .before .args .names .now)) (sym (c .before .before .head-ok .ensures) ∙ c .before .if1 .taken))
+enum-told : tie.Need-enum-told
+enum-told c = search needs
 
--- src/lib.rt:201:13
+refused-requires : tie.Need-refused-requires
+refused-requires c κs = search needs
+
+turned-away-requires : tie.Need-turned-away-requires
+turned-away-requires c κs = search needs
+
 returns : tie.Need-returns
 unfolding openingAnswer openingFault
 returns c =
-    simp (← c .before .before .before .before .head-ok .ensures, c .before .before .before .if1 .taken, ← c .before .before .dims-of .ensures, ← c .before .book-new .ensures, c .if2 .taken)
+    let h : headOk (c .before .before .before .before .before .before .args .b .now) (length (c .before .before .before .before .before .before .args .names .now)) ≡ false = head-damaged (c .before .before .before .before .before .before .args .b .now) (length (c .before .before .before .before .before .before .args .names .now)) (c .before .before .before .before .head-of .ensures) (c .before .before .enum-told .given .1) in
+    record { says = c .turned-away .ensures ∙ ap refused (c .before .refused .ensures) ∙ rw h }
 
--- src/lib.rt:204:9
+book-new-requires : tie.Need-book-new-requires
+book-new-requires c κs =
+    head-read (c .before .before .before .before .before .args .b .now) (length (c .before .before .before .before .before .args .names .now)) (c .before .before .before .head-of .ensures) (c .before .d .given .1) .shaped
+
+refused-requires-2 : tie.Need-refused-requires-2
+refused-requires-2 c κs = search needs
+
+turned-away-requires-2 : tie.Need-turned-away-requires-2
+turned-away-requires-2 c κs = search needs
+
 returns-2 : tie.Need-returns-2
 unfolding openingAnswer openingFault
 returns-2 c =
-    simp (← c .before .before .before .before .head-ok .ensures, c .before .before .before .if1 .taken, ← c .before .before .dims-of .ensures, ← c .before .book-new .ensures, c .if2 .left)
+    let v = head-read (c .before .before .before .before .before .before .before .before .before .args .b .now) (length (c .before .before .before .before .before .before .before .before .before .args .names .now)) (c .before .before .before .before .before .before .before .head-of .ensures) (c .before .before .before .before .before .d .given .1) in
+    let n : bookNew (dims (c .before .before .before .before .before .before .before .before .before .args .b .now)) (c .before .before .before .before .before .before .before .before .before .args .b .now) (c .before .before .before .before .before .before .before .before .before .args .names .now) ≡ false = rw (← v .same) (sym (c .before .before .before .book-new .ensures) ∙ not-true (c .before .before .before .book-new .result) (c .before .before .if1 .taken)) in
+    record { says = c .turned-away2 .ensures ∙ ap refused (c .before .refused2 .ensures) ∙ rw (v .fine, n) }
 
--- src/lib.rt:194:1
 returns-3 : tie.Need-returns-3
 unfolding openingAnswer openingFault
 returns-3 c =
-    simp (← c .before .head-ok .ensures, c .if1 .left)
+    let v = head-read (c .before .before .before .before .before .before .before .args .b .now) (length (c .before .before .before .before .before .before .before .args .names .now)) (c .before .before .before .before .before .head-of .ensures) (c .before .before .before .d .given .1) in
+    let n : bookNew (dims (c .before .before .before .before .before .before .before .args .b .now)) (c .before .before .before .before .before .before .before .args .b .now) (c .before .before .before .before .before .before .before .args .names .now) ≡ true = rw (← v .same) (sym (c .before .book-new .ensures) ∙ not-false (c .before .book-new .result) (c .if1 .left)) in
+    record { says = rw (v .fine, n) }
 
 pub opening-spec : {M : Type 1} → statement M
 opening-spec =
     tie.close
-    (tie.spec head-ok-requires dims-of-requires book-new-requires returns returns-2 returns-3)
+    (tie.spec
+    head-of-requires
+    enum-known-d
+    enum-told
+    refused-requires
+    turned-away-requires
+    returns
+    book-new-requires
+    refused-requires-2
+    turned-away-requires-2
+    returns-2
+    returns-3)

@@ -13,39 +13,32 @@ use Rattle.opening.proofs.districts_new.Reads as districts-new-reads
 use Rattle.opening.proofs.new_stocks.Reads as new-stocks-reads
 use Rattle.opening.proofs.new_warehouse.Reads as new-warehouse-reads
 
--- src/lib.rt:153:9
 warehouse-at-requires : tie.Need-warehouse-at-requires
 warehouse-at-requires c κs =
     (c .before .pre .0 .dimsd, c .before .pre .1)
 
--- src/lib.rt:154:9
 new-warehouse-requires : tie.Need-new-warehouse-requires
 new-warehouse-requires c κs =
     omega (arith, c .warehouse-at .ensures, c .before .before .pre .0 .long)
 
--- src/lib.rt:155:9
 returns : tie.Need-returns
 unfolding warehouseNew
 returns c =
     rw (← warehouse-row (c .before .before .before .before .args .d) (c .before .before .before .before .args .b .now) (c .before .before .before .before .args .w) (c .before .before .warehouse-at .ensures .0) (c .before .new-warehouse .ensures), not-true (c .before .new-warehouse .result) (c .if1 .taken))
 
--- src/lib.rt:157:9
 districts-new-requires : tie.Need-districts-new-requires
 districts-new-requires c κs =
     (c .before .before .before .before .pre)
 
--- src/lib.rt:158:9
 returns-2 : tie.Need-returns-2
 unfolding warehouseNew
 returns-2 c =
     rw (← warehouse-row (c .before .before .before .before .before .before .args .d) (c .before .before .before .before .before .before .args .b .now) (c .before .before .before .before .before .before .args .w) (c .before .before .before .before .warehouse-at .ensures .0) (c .before .before .before .new-warehouse .ensures), not-false (c .before .before .before .new-warehouse .result) (c .before .before .if1 .left), ← c .before .districts-new .ensures, not-true (c .before .districts-new .result) (c .if2 .taken))
 
--- src/lib.rt:160:5
 new-stocks-requires : tie.Need-new-stocks-requires
 new-stocks-requires c κs =
     (shaped-booked (c .before .before .before .before .before .before .pre .0), c .before .before .before .before .before .before .pre .1)
 
--- src/lib.rt:149:1
 returns-3 : tie.Need-returns-3
 unfolding warehouseNew
 returns-3 c =

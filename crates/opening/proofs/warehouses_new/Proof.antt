@@ -19,40 +19,32 @@ Inv-loop b names d i₀ i = (i ≤ d .warehouses) × (allTo i (warehouseNew d b 
 abbrev μ-loop : tie.MeasureT-loop
 μ-loop b names d i₀ i = d .warehouses - i
 
--- src/lib.rt:169:5
 loop-holds : tie.Need-loop-holds Inv-loop μ-loop
 loop-holds c =
     (search needs, all-none (warehouseNew (c .before .args .d) (c .before .args .b .now) (c .before .args .names .now)))
 
--- src/lib.rt:170:40
 add-warehouse-new : tie.Need-add-warehouse-new Inv-loop μ-loop
 add-warehouse-new c =
     omega (arith, c .before .before .before .before .pre .dimsd, c .if1 .taken)
 
--- src/lib.rt:170:13
 warehouse-new-requires : tie.Need-warehouse-new-requires Inv-loop μ-loop
 warehouse-new-requires c κs =
     ((c .before .before .before .before .pre), record { lo = omega arith; hi = omega (arith, c .if1 .taken) })
 
--- src/lib.rt:171:13
 returns : tie.Need-returns Inv-loop μ-loop
 returns c =
     all-left (warehouseNew (c .before .before .before .before .before .before .args .d) (c .before .before .before .before .before .before .args .b .now) (c .before .before .before .before .before .before .args .names .now)) (c .before .before .before .before .before .before .args .d .warehouses) (c .before .before .before .before .loop .i) (c .before .before .if1 .taken) (c .before .warehouse-new .ensures) (c .if2 .taken)
 
--- src/lib.rt:173:9
 add-i : tie.Need-add-i Inv-loop μ-loop
 add-i c = search needs
 
--- src/lib.rt:169:5
 loop-less : tie.Need-loop-less Inv-loop μ-loop
 loop-less c = search needs
 
--- src/lib.rt:169:5
 loop-again : tie.Need-loop-again Inv-loop μ-loop
 loop-again c =
     (search needs, all-again (warehouseNew (c .before .before .before .before .before .before .args .d) (c .before .before .before .before .before .before .args .b .now) (c .before .before .before .before .before .before .args .names .now)) (c .before .before .before .before .loop .i) (c .before .before .before .before .loop .inv .1) (c .before .warehouse-new .ensures) (c .if2 .left))
 
--- src/lib.rt:164:1
 returns-2 : tie.Need-returns-2 Inv-loop μ-loop
 returns-2 c =
     all-end (warehouseNew (c .before .before .before .before .args .d) (c .before .before .before .before .args .b .now) (c .before .before .before .before .args .names .now)) (c .before .before .loop .inv .0) (c .if1 .left) (c .before .before .loop .inv .1)

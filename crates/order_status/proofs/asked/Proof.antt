@@ -1,59 +1,68 @@
+use Rattle.model.proofs.TestLaws.{turned-away, passed-on}
 use Rattle.model.specs.OrderStatus.{statusAsked}
-use borrow.Author.Tests.{not-true, not-false}
 use Prim.Native.Nat.{_-_}
 use borrow.Author.Needs.{needs}
 use Rattle.order_status.proofs.asked.Statement.{statement}
 use Rattle.order_status.proofs.asked.Tie as tie
 use Rattle.order_status.proofs.asked.Reads as reads
 use Rattle.order_status.proofs.asked.Lts as lts
+use Rattle.cells.proofs.refused.Reads as refused-reads
+use Rattle.cells.proofs.within.Reads as within-reads
 use Rattle.lookup.proofs.who_ok.Reads as who-ok-reads
-use Rattle.order_status.proofs.district_ok.Reads as district-ok-reads
-use Rattle.order_status.proofs.warehouse_ok.Reads as warehouse-ok-reads
 
--- src/lib.rt:54:9
-warehouse-ok-requires : tie.Need-warehouse-ok-requires
-warehouse-ok-requires c κs = search needs
+within-requires : tie.Need-within-requires
+within-requires c κs = search needs
 
--- src/lib.rt:55:9
+refused-requires : tie.Need-refused-requires
+refused-requires c κs = search needs
+
 returns : tie.Need-returns
 unfolding statusAsked
 returns c =
-    simp (← c .before .warehouse-ok .ensures, not-true (c .before .warehouse-ok .result) (c .if1 .taken))
+    turned-away 4 _ (c .before .before .within .ensures) (c .before .if1 .taken) (c .refused .ensures)
 
--- src/lib.rt:57:9
-district-ok-requires : tie.Need-district-ok-requires
-district-ok-requires c κs = search needs
+within-requires-2 : tie.Need-within-requires-2
+within-requires-2 c κs = search needs
 
--- src/lib.rt:58:9
+refused-requires-2 : tie.Need-refused-requires-2
+refused-requires-2 c κs = search needs
+
 returns-2 : tie.Need-returns-2
 unfolding statusAsked
 returns-2 c =
-    simp (← c .before .before .before .warehouse-ok .ensures, not-false (c .before .before .before .warehouse-ok .result) (c .before .before .if1 .left), ← c .before .district-ok .ensures, not-true (c .before .district-ok .result) (c .if2 .taken))
+    passed-on 4 _ (c .before .before .before .before .within .ensures) (c .before .before .before .if1 .left) (turned-away 5 _ (c .before .before .within2 .ensures) (c .before .if2 .taken) (c .refused2 .ensures))
 
--- src/lib.rt:60:9
 who-ok-requires : tie.Need-who-ok-requires
 who-ok-requires c κs = search needs
 
--- src/lib.rt:61:9
+refused-requires-3 : tie.Need-refused-requires-3
+refused-requires-3 c κs = search needs
+
 returns-3 : tie.Need-returns-3
 unfolding statusAsked
 returns-3 c =
-    simp (← c .before .before .before .before .before .warehouse-ok .ensures, not-false (c .before .before .before .before .before .warehouse-ok .result) (c .before .before .before .before .if1 .left), ← c .before .before .before .district-ok .ensures, not-false (c .before .before .before .district-ok .result) (c .before .before .if2 .left), ← c .before .who-ok .ensures, not-true (c .before .who-ok .result) (c .if3 .taken))
+    passed-on 4 _ (c .before .before .before .before .before .before .within .ensures) (c .before .before .before .before .before .if1 .left) (passed-on 5 _ (c .before .before .before .before .within2 .ensures) (c .before .before .before .if2 .left) (turned-away 6 _ (c .before .before .who-ok .ensures) (c .before .if3 .taken) (c .refused3 .ensures)))
 
--- src/lib.rt:51:1
+refused-requires-4 : tie.Need-refused-requires-4
+refused-requires-4 c κs = search needs
+
 returns-4 : tie.Need-returns-4
 unfolding statusAsked
 returns-4 c =
-    simp (← c .before .before .before .before .before .warehouse-ok .ensures, not-false (c .before .before .before .before .before .warehouse-ok .result) (c .before .before .before .before .if1 .left), ← c .before .before .before .district-ok .ensures, not-false (c .before .before .before .district-ok .result) (c .before .before .if2 .left), ← c .before .who-ok .ensures, not-false (c .before .who-ok .result) (c .if3 .left))
+    passed-on 4 _ (c .before .before .before .before .before .before .within .ensures) (c .before .before .before .before .before .if1 .left) (passed-on 5 _ (c .before .before .before .before .within2 .ensures) (c .before .before .before .if2 .left) (passed-on 6 _ (c .before .before .who-ok .ensures) (c .before .if3 .left) (c .refused4 .ensures)))
 
 pub asked-spec : {M : Type 1} → statement M
 asked-spec =
     tie.close
     (tie.spec
-    warehouse-ok-requires
+    within-requires
+    refused-requires
     returns
-    district-ok-requires
+    within-requires-2
+    refused-requires-2
     returns-2
     who-ok-requires
+    refused-requires-3
     returns-3
+    refused-requires-4
     returns-4)

@@ -7,25 +7,20 @@ use Rattle.order_status.proofs.customer_of.Reads as reads
 use Rattle.order_status.proofs.customer_of.Lts as lts
 use Rattle.lookup.proofs.find.Reads as find-reads
 
--- src/lib.rt:211:27
 enum-known-who : tie.Need-enum-known-who
 enum-known-who c = search needs
 
--- src/lib.rt:212:32
 enum-told : tie.Need-enum-told
 enum-told c = search needs
 
--- src/lib.rt:212:32
 find-requires : tie.Need-find-requires
 find-requires c κs = search needs
 
--- src/lib.rt:206:1
 returns : tie.Need-returns
 unfolding customerOf
 returns c =
     rw (c .before .who .given .1)
 
--- src/lib.rt:206:1
 returns-2 : tie.Need-returns-2
 unfolding customerOf
 returns-2 c =

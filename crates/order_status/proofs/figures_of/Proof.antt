@@ -12,24 +12,19 @@ use Rattle.rows.proofs.balance_of.Reads as balance-of-reads
 use Rattle.rows.proofs.entry_date.Reads as entry-date-reads
 use Rattle.rows.proofs.order_carrier.Reads as order-carrier-reads
 
--- src/lib.rt:147:9
 balance-of-requires : tie.Need-balance-of-requires
 balance-of-requires c κs = search needs
 
--- src/lib.rt:149:9
 returns : tie.Need-returns
 returns c =
     (refl, (rw (held (c .before .balance-of .ok)) (c .before .balance-of .ensures), shown-none _ _ _ _ (c .if1 .taken)))
 
--- src/lib.rt:157:9
 entry-date-requires : tie.Need-entry-date-requires
 entry-date-requires c κs = search needs
 
--- src/lib.rt:158:9
 order-carrier-requires : tie.Need-order-carrier-requires
 order-carrier-requires c κs = search needs
 
--- src/lib.rt:143:1
 returns-2 : tie.Need-returns-2
 returns-2 c =
     (refl, (rw (held (c .before .before .before .balance-of .ok)) (c .before .before .before .balance-of .ensures), shown-some _ _ _ _ _ (c .before .before .if1 .left) (c .before .entry-date .ensures) (c .order-carrier .ensures)))

@@ -7,27 +7,21 @@ use Rattle.order_status.proofs.lines_in.Tie as tie
 use Rattle.order_status.proofs.lines_in.Reads as reads
 use Rattle.order_status.proofs.lines_in.Lts as lts
 
--- src/lib.rt:247:15
 add-end : tie.Need-add-end
 add-end c = search needs
 
--- src/lib.rt:251:5
 mul-result : tie.Need-mul-result
 mul-result c = search needs
 
--- src/lib.rt:251:5
 sub-result : tie.Need-sub-result
 sub-result c = search needs
 
--- src/lib.rt:251:5
 part-result-start : tie.Need-part-result-start
 part-result-start c = search needs
 
--- src/lib.rt:251:5
 part-result-end : tie.Need-part-result-end
 part-result-end c = search needs
 
--- src/lib.rt:243:1
 returns : tie.Need-returns
 returns c =
     let e : c .before .before .args .part .from + c .before .before .args .part .count - c .before .before .args .part .from ≡ c .before .before .args .part .count = omega arith in rw e

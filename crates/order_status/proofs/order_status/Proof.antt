@@ -46,8 +46,8 @@ use Rattle.model.specs.declared.Part.{Part}
 use Rattle.model.specs.declared.Selection.{Selection}
 use Rattle.model.specs.declared.StatusOutcome.{StatusOutcome}
 use Rattle.model.specs.Names.{whoOf}
-use Rattle.model.specs.Answer.{statusSays}
-use Rattle.model.specs.OrderStatus.{statusAnswer, statusLines}
+use Rattle.model.specs.Contracts.{StatusCall}
+use Rattle.order_status.specs.Seen.{ShownCall}
 use Rattle.model.specs.Request.{partOf}
 use Rattle.model.proofs.OrderStatus as Q
 use Rattle.model.proofs.OrderStatus.Laws as Q′
@@ -179,9 +179,7 @@ module _ {M : Type 1} (𝓤 : URA M) (H : Heap 𝓤) (A : Atoms 𝓤) (W : Given
   tval r y = LL.val (T.the-type α) (T′.the-laws α) (made r y)
 
   abbrev Says : Shown → Type 0
-  Says r =
-      (statusSays (r .outcome) ≡ statusAnswer (b .now) (n .now) t (whoOf w (m .now)))
-      × ((r .part .from + r .part .count ≤ length (b .now)) × (partOf (r .part) (b .now) ≡ statusLines (b .now) (n .now) t (whoOf w (m .now))))
+  Says r = ShownCall (b .now) (n .now) t (whoOf w (m .now)) r
 
   abbrev to-shown : Finds 𝓤 H A mem run .Ghost
   to-shown = ((κs, qs, tt, a, at), tt)
@@ -212,7 +210,7 @@ module _ {M : Type 1} (𝓤 : URA M) (H : Heap 𝓤) (A : Atoms 𝓤) (W : Given
   y-spelled y x is = ap hd (shr-slice-tells (named 0) κ i64 y (x ∷ []) is)
 
   exits : (r : Shown) (y : RefT (List ℤ)) → Is O.the-row (r .outcome) (ovals (r .outcome))
-      → (statusSays (r .outcome) ≡ statusAnswer (b .now) (n .now) t (whoOf w (m .now))) × (now y ≡ statusLines (b .now) (n .now) t (whoOf w (m .now)))
+      → StatusCall (b .now) (n .now) t (whoOf w (m .now)) (r .outcome) (now y)
       → ent 𝓤 (⋆ 𝓤 H A ((‵ (flft κ q) ⊛ ‵ ftrue) ∷ Others ∷ ‵ (Shr b (slv b)) ∷ ‵ Names ∷ ‵ Name ∷ ‵ (Shr y (slv y)) ∷ [])) (Post (tval r y))
   exits r y is e =
       qed W ((‵ (flft κ q) ⊛ ‵ ftrue) ∷ Others ∷ ‵ (Shr b (slv b)) ∷ ‵ Names ∷ ‵ Name ∷ ‵ (Shr y (slv y)) ∷ []) ∵
@@ -251,7 +249,7 @@ module _ {M : Type 1} (𝓤 : URA M) (H : Heap 𝓤) (A : Atoms 𝓤) (W : Given
         rewrite ! 8 (λ (x : Val). ‵ (fat fullShare S′.mir l₆ 0 x)) (s-spelled r u is) refl $
         -- [the tokens; the book; names; name; _8; …]
         split ! $ move ! (2 ∷ []) $ use1 W (‵ (Shr b (slv b)) ⊛ ‵ (Shr b (slv b))) (shr-slice-copy 𝓤 H A W (named 0) κ i64 .twice b (slv b ∷ [])) $ split ! $
-        move ! (2 ∷ 0 ∷ []) $ use2 W (raw (Cuts 𝓤 H A mem run .pre (to-lines r))) (goes-lines r (part-is r u is) (e .1 .0)) $
+        move ! (2 ∷ 0 ∷ []) $ use2 W (raw (Cuts 𝓤 H A mem run .pre (to-lines r))) (goes-lines r (part-is r u is) (e .within)) $
         -- [what `lines_in` asks; the book; the other tokens; names; name; _8; …; _7; …; _6; …; _5; …; _4; …; _3; …; _2; …; _1; …; room for _0; …]
         calls-at ! fm (Cuts 𝓤 H A mem run) known-lines (to-lines r) (and-then ! (load ! (from ! (stop !)) (look ! 19 refl)) (and-then ! (load ! (from ! (fld ! refl (stop !))) (look-in ! 9 (sub ! 1 refl (whole !)))) (no-more !))) (λ x.
         use1 W (later (some (λ (y : RefT (List ℤ)). ((‵ (flft κ q) ⊛ ‵ ftrue) ⊛ ‵ (Shr y x)) ⊛ raw (ensured 𝓤 H A lines.ended (lines.clauses 𝓤 H A mem run) (κ, tt) (b, (r .part, tt)) tt y)))) (id⊢ 𝓤 _) $ await ! tt $ pick ! (λ y.
@@ -266,7 +264,7 @@ module _ {M : Type 1} (𝓤 : URA M) (H : Heap 𝓤) (A : Atoms 𝓤) (W : Given
         returns ! (look ! 22 refl) $ forget ! 6 refl $ forget ! 8 refl $ forget ! 10 refl $ forget ! 12 refl $ forget ! 14 refl $ forget ! 16 refl $ forget ! 18 refl $ forget ! 20 refl $ forget ! 22 refl $
         move ! (22 ∷ 23 ∷ []) $ free1 ! $ move ! (20 ∷ 21 ∷ []) $ free1 ! $ move ! (18 ∷ 19 ∷ []) $ free1 ! $ move ! (16 ∷ 17 ∷ []) $ free1 ! $ move ! (14 ∷ 15 ∷ []) $ free1 ! $
         move ! (12 ∷ 13 ∷ []) $ free1 ! $ move ! (10 ∷ 11 ∷ []) $ free1 ! $ move ! (8 ∷ 9 ∷ []) $ free1 ! $ move ! (6 ∷ 7 ∷ []) $ free1 ! $ free0 ! $
-        keep ! (1 ∷ 3 ∷ 2 ∷ 4 ∷ 5 ∷ 0 ∷ []) $ by ! (exits r y (outcome-is r u is) (e .0, e′ ∙ e .1 .1))))))))))))))))))))
+        keep ! (1 ∷ 3 ∷ 2 ∷ 4 ∷ 5 ∷ 0 ∷ []) $ by ! (exits r y (outcome-is r u is) (record { says = e .says; shows = e′ ∙ e .shows }))))))))))))))))))))
 
 module _ {M : Type 1} (𝓤 : URA M) (H : Heap 𝓤) (A : Atoms 𝓤) (W : Given 𝓤 H A) (mem : Memory → SProp 𝓤) (run : Routine → Fun 𝓤) where
   status-walks : (C : Calls 𝓤 H) (Λ : Loops 𝓤 H) → FmC 𝓤 H (W .laws) C → Triple 𝓤 (C #shown) (Finds 𝓤 H A mem run) → Triple 𝓤 (C #lines) (Cuts 𝓤 H A mem run)

@@ -8,29 +8,23 @@ use Rattle.order_status.proofs.part_of.Lts as lts
 use Rattle.layout.proofs.order_at.Reads as order-at-reads
 use Rattle.rows.proofs.line_count.Reads as line-count-reads
 
--- src/lib.rt:209:9
 returns : tie.Need-returns
 returns c =
     (omega arith, lines-none _ _ _ _ (c .if1 .taken))
 
--- src/lib.rt:211:9
 line-count-requires : tie.Need-line-count-requires
 line-count-requires c κs = search needs
 
--- src/lib.rt:212:9
 order-at-requires : tie.Need-order-at-requires
 order-at-requires c κs = search needs
 
--- src/lib.rt:213:16
 add-from : tie.Need-add-from
 add-from c = search needs
 
--- src/lib.rt:214:17
 mul-count : tie.Need-mul-count
 mul-count c =
     let t = c .before .before .before .pre .1 .1 .1 .1 (c .before .before .if1 .left) in omega (arith, t .hi, c .before .line-count .ensures)
 
--- src/lib.rt:204:1
 returns-2 : tie.Need-returns-2
 returns-2 c =
     let t = c .before .before .before .pre .1 .1 .1 .1 (c .before .before .if1 .left) in (omega (arith, c .order-at .ensures, c .before .line-count .ensures, t .hi, (c .before .before .before .pre .0)), lines-some _ _ _ _ _ (omega (arith, c .before .before .if1 .left)) (c .before .line-count .ensures) (c .order-at .ensures .0))

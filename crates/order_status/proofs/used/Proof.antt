@@ -1,40 +1,44 @@
-use Rattle.rows.proofs.RowTests.{shaped-booked}
-use Rattle.model.specs.Used.{ordersUsed}
-use Rattle.model.specs.OrderStatus.{statusUsed, lastOrder, statusCustomer, statusOrder}
-use Rattle.order_status.proofs.Stages.{scan-unfit, scan-fine, scan-last}
 use borrow.Author.Tests.{not-true, not-false}
+use Rattle.order_status.proofs.Stages.{scan-unfit, scan-fine, scan-last}
+use Rattle.model.specs.OrderStatus.{statusUsed, statusCustomer, statusOrder, lastOrder}
+use Rattle.model.specs.Used.{ordersUsed}
+use Rattle.rows.proofs.RowTests.{shaped-booked}
+use Prim.Native.Nat.{_-_}
 use mathlib.Core.Path.{sym, _∙_}
 use borrow.Author.Needs.{needs}
 use Rattle.order_status.proofs.used.Statement.{statement}
 use Rattle.order_status.proofs.used.Tie as tie
 use Rattle.order_status.proofs.used.Reads as reads
 use Rattle.order_status.proofs.used.Lts as lts
+use Rattle.cells.proofs.refused.Reads as refused-reads
 use Rattle.order_status.proofs.customer_of.Reads as customer-of-reads
+use Rattle.order_status.proofs.nothing_seen.Reads as nothing-seen-reads
 use Rattle.order_status.proofs.number_of.Reads as number-of-reads
 use Rattle.order_status.proofs.orders_scanned.Reads as orders-scanned-reads
-use Rattle.order_status.proofs.refused.Reads as refused-reads
 use Rattle.order_status.proofs.who_used.Reads as who-used-reads
 use Rattle.rows.proofs.district_used.Reads as district-used-reads
 
 district-used-requires : tie.Need-district-used-requires
 district-used-requires c κs = search needs
 
-refused-requires : tie.Need-refused-requires
-refused-requires c κs = search needs
+nothing-seen-requires : tie.Need-nothing-seen-requires
+nothing-seen-requires c κs = search needs
 
 returns : tie.Need-returns
 unfolding statusUsed
-returns c = c .refused .ensures ∙ simp (← c .before .before .district-used .ensures, not-true (c .before .before .district-used .result) (c .before .if1 .taken))
+returns c =
+    c .nothing-seen .ensures ∙ simp (← c .before .before .district-used .ensures, not-true (c .before .before .district-used .result) (c .before .if1 .taken))
 
 who-used-requires : tie.Need-who-used-requires
 who-used-requires c κs = search needs
 
-refused-requires-2 : tie.Need-refused-requires-2
-refused-requires-2 c κs = search needs
+nothing-seen-requires-2 : tie.Need-nothing-seen-requires-2
+nothing-seen-requires-2 c κs = search needs
 
 returns-2 : tie.Need-returns-2
 unfolding statusUsed
-returns-2 c = c .refused2 .ensures ∙ simp (← c .before .before .before .before .district-used .ensures, not-false (c .before .before .before .before .district-used .result) (c .before .before .before .if1 .left), ← c .before .before .who-used .ensures, not-true (c .before .before .who-used .result) (c .before .if2 .taken))
+returns-2 c =
+    c .nothing-seen2 .ensures ∙ simp (← c .before .before .before .before .district-used .ensures, not-false (c .before .before .before .before .district-used .result) (c .before .before .before .if1 .left), ← c .before .before .who-used .ensures, not-true (c .before .before .who-used .result) (c .before .if2 .taken))
 
 customer-of-requires : tie.Need-customer-of-requires
 customer-of-requires c κs = search needs
@@ -43,14 +47,17 @@ number-of-requires : tie.Need-number-of-requires
 number-of-requires c κs = search needs
 
 orders-scanned-requires : tie.Need-orders-scanned-requires
-orders-scanned-requires c κs = (shaped-booked (c .before .before .before .before .before .before .before .before .pre .0), (c .before .before .before .before .before .before .before .before .pre .1 .w, (c .before .before .before .before .before .before .before .before .pre .1 .k, sym (c .before .before .before .before .before .district-used .ensures) ∙ not-false (c .before .before .before .before .before .district-used .result) (c .before .before .before .before .if1 .left))))
+orders-scanned-requires c κs =
+    (shaped-booked (c .before .before .before .before .before .before .before .before .pre .0), (c .before .before .before .before .before .before .before .before .pre .1 .w, (c .before .before .before .before .before .before .before .before .pre .1 .k, sym (c .before .before .before .before .before .district-used .ensures) ∙ not-false (c .before .before .before .before .before .district-used .result) (c .before .before .before .before .if1 .left))))
 
-refused-requires-3 : tie.Need-refused-requires-3
-refused-requires-3 c κs = search needs
+nothing-seen-requires-3 : tie.Need-nothing-seen-requires-3
+nothing-seen-requires-3 c κs = search needs
 
 returns-3 : tie.Need-returns-3
 unfolding statusUsed
-returns-3 c = c .refused3 .ensures ∙ simp (← c .before .before .before .before .before .before .before .before .before .district-used .ensures, not-false (c .before .before .before .before .before .before .before .before .before .district-used .result) (c .before .before .before .before .before .before .before .before .if1 .left), ← c .before .before .before .before .before .before .before .who-used .ensures, not-false (c .before .before .before .before .before .before .before .who-used .result) (c .before .before .before .before .before .before .if2 .left), scan-unfit (ordersUsed (c .before .before .before .before .before .before .before .before .before .before .before .before .args .d) (c .before .before .before .before .before .before .before .before .before .before .before .before .args .b .now) (c .before .before .before .before .before .before .before .before .before .before .before .before .args .q .warehouse) (c .before .before .before .before .before .before .before .before .before .before .before .before .args .q .district)) (lastOrder (c .before .before .before .before .before .before .before .before .before .before .before .before .args .d) (c .before .before .before .before .before .before .before .before .before .before .before .before .args .b .now) (c .before .before .before .before .before .before .before .before .before .before .before .before .args .q .warehouse) (c .before .before .before .before .before .before .before .before .before .before .before .before .args .q .district) (c .before .before .before .before .number-of .result)) (c .before .before .before .orders-scanned .ensures) (c .before .if3 .taken))
+returns-3 c =
+    let d = c .before .before .before .before .before .before .before .before .before .before .before .before .args .d in let b = c .before .before .before .before .before .before .before .before .before .before .before .before .args .b .now in let w = c .before .before .before .before .before .before .before .before .before .before .before .before .args .q .warehouse in let k = c .before .before .before .before .before .before .before .before .before .before .before .before .args .q .district in
+    c .nothing-seen3 .ensures ∙ simp (← c .before .before .before .before .before .before .before .before .before .district-used .ensures, not-false (c .before .before .before .before .before .before .before .before .before .district-used .result) (c .before .before .before .before .before .before .before .before .if1 .left), ← c .before .before .before .before .before .before .before .who-used .ensures, not-false (c .before .before .before .before .before .before .before .who-used .result) (c .before .before .before .before .before .before .if2 .left), scan-unfit (ordersUsed d b w k) (lastOrder d b w k (c .before .before .before .before .number-of .result)) (c .before .before .before .orders-scanned .ensures) (c .before .if3 .taken))
 
 enum-known-found : tie.Need-enum-known-found
 enum-known-found c = search needs
@@ -58,34 +65,42 @@ enum-known-found c = search needs
 enum-told : tie.Need-enum-told
 enum-told c = search needs
 
-refused-requires-4 : tie.Need-refused-requires-4
-refused-requires-4 c κs = search needs
+nothing-seen-requires-4 : tie.Need-nothing-seen-requires-4
+nothing-seen-requires-4 c κs = search needs
 
 returns-4 : tie.Need-returns-4
 unfolding statusUsed
-returns-4 c = c .refused4 .ensures ∙ simp (← c .before .before .before .before .before .before .before .before .before .before .before .district-used .ensures, not-false (c .before .before .before .before .before .before .before .before .before .before .before .district-used .result) (c .before .before .before .before .before .before .before .before .before .before .if1 .left), ← c .before .before .before .before .before .before .before .before .before .who-used .ensures, not-false (c .before .before .before .before .before .before .before .before .before .who-used .result) (c .before .before .before .before .before .before .before .before .if2 .left), scan-fine (ordersUsed (c .before .before .before .before .before .before .before .before .before .before .before .before .before .before .args .d) (c .before .before .before .before .before .before .before .before .before .before .before .before .before .before .args .b .now) (c .before .before .before .before .before .before .before .before .before .before .before .before .before .before .args .q .warehouse) (c .before .before .before .before .before .before .before .before .before .before .before .before .before .before .args .q .district)) (lastOrder (c .before .before .before .before .before .before .before .before .before .before .before .before .before .before .args .d) (c .before .before .before .before .before .before .before .before .before .before .before .before .before .before .args .b .now) (c .before .before .before .before .before .before .before .before .before .before .before .before .before .before .args .q .warehouse) (c .before .before .before .before .before .before .before .before .before .before .before .before .before .before .args .q .district) (c .before .before .before .before .before .before .number-of .result)) (c .before .before .before .before .before .orders-scanned .ensures) (c .before .before .before .if3 .left), ← c .before .before .before .before .before .before .before .customer-of .ensures, c .before .enum-told .given .1)
+returns-4 c =
+    let d = c .before .before .before .before .before .before .before .before .before .before .before .before .before .before .args .d in let b = c .before .before .before .before .before .before .before .before .before .before .before .before .before .before .args .b .now in let w = c .before .before .before .before .before .before .before .before .before .before .before .before .before .before .args .q .warehouse in let k = c .before .before .before .before .before .before .before .before .before .before .before .before .before .before .args .q .district in
+    c .nothing-seen4 .ensures ∙ simp (← c .before .before .before .before .before .before .before .before .before .before .before .district-used .ensures, not-false (c .before .before .before .before .before .before .before .before .before .before .before .district-used .result) (c .before .before .before .before .before .before .before .before .before .before .if1 .left), ← c .before .before .before .before .before .before .before .before .before .who-used .ensures, not-false (c .before .before .before .before .before .before .before .before .before .who-used .result) (c .before .before .before .before .before .before .before .before .if2 .left), scan-fine (ordersUsed d b w k) (lastOrder d b w k (c .before .before .before .before .before .before .number-of .result)) (c .before .before .before .before .before .orders-scanned .ensures) (c .before .before .before .if3 .left), ← c .before .before .before .before .before .before .before .customer-of .ensures, c .before .enum-told .given .1)
+
+refused-requires : tie.Need-refused-requires
+refused-requires c κs = search needs
 
 returns-5 : tie.Need-returns-5
 unfolding statusUsed statusCustomer statusOrder
-returns-5 c = simp (← c .before .before .before .before .before .before .before .before .before .before .before .district-used .ensures, not-false (c .before .before .before .before .before .before .before .before .before .before .before .district-used .result) (c .before .before .before .before .before .before .before .before .before .before .if1 .left), ← c .before .before .before .before .before .before .before .before .before .who-used .ensures, not-false (c .before .before .before .before .before .before .before .before .before .who-used .result) (c .before .before .before .before .before .before .before .before .if2 .left), scan-fine (ordersUsed (c .before .before .before .before .before .before .before .before .before .before .before .before .before .before .args .d) (c .before .before .before .before .before .before .before .before .before .before .before .before .before .before .args .b .now) (c .before .before .before .before .before .before .before .before .before .before .before .before .before .before .args .q .warehouse) (c .before .before .before .before .before .before .before .before .before .before .before .before .before .before .args .q .district)) (lastOrder (c .before .before .before .before .before .before .before .before .before .before .before .before .before .before .args .d) (c .before .before .before .before .before .before .before .before .before .before .before .before .before .before .args .b .now) (c .before .before .before .before .before .before .before .before .before .before .before .before .before .before .args .q .warehouse) (c .before .before .before .before .before .before .before .before .before .before .before .before .before .before .args .q .district) (c .before .before .before .before .before .before .number-of .result)) (c .before .before .before .before .before .orders-scanned .ensures) (c .before .before .before .if3 .left), scan-last (ordersUsed (c .before .before .before .before .before .before .before .before .before .before .before .before .before .before .args .d) (c .before .before .before .before .before .before .before .before .before .before .before .before .before .before .args .b .now) (c .before .before .before .before .before .before .before .before .before .before .before .before .before .before .args .q .warehouse) (c .before .before .before .before .before .before .before .before .before .before .before .before .before .before .args .q .district)) (lastOrder (c .before .before .before .before .before .before .before .before .before .before .before .before .before .before .args .d) (c .before .before .before .before .before .before .before .before .before .before .before .before .before .before .args .b .now) (c .before .before .before .before .before .before .before .before .before .before .before .before .before .before .args .q .warehouse) (c .before .before .before .before .before .before .before .before .before .before .before .before .before .before .args .q .district) (c .before .before .before .before .before .before .number-of .result)) (c .before .before .before .before .before .orders-scanned .ensures) (c .before .before .before .if3 .left), c .before .before .before .before .before .before .number-of .ensures, ← c .before .before .before .before .before .before .before .customer-of .ensures, c .before .found .given .1)
+returns-5 c =
+    let d = c .before .before .before .before .before .before .before .before .before .before .before .before .before .before .before .args .d in let b = c .before .before .before .before .before .before .before .before .before .before .before .before .before .before .before .args .b .now in let w = c .before .before .before .before .before .before .before .before .before .before .before .before .before .before .before .args .q .warehouse in let k = c .before .before .before .before .before .before .before .before .before .before .before .before .before .before .before .args .q .district in
+    simp (c .refused .ensures, ← c .before .before .before .before .before .before .before .before .before .before .before .before .district-used .ensures, not-false (c .before .before .before .before .before .before .before .before .before .before .before .before .district-used .result) (c .before .before .before .before .before .before .before .before .before .before .before .if1 .left), ← c .before .before .before .before .before .before .before .before .before .before .who-used .ensures, not-false (c .before .before .before .before .before .before .before .before .before .before .who-used .result) (c .before .before .before .before .before .before .before .before .before .if2 .left), scan-fine (ordersUsed d b w k) (lastOrder d b w k (c .before .before .before .before .before .before .before .number-of .result)) (c .before .before .before .before .before .before .orders-scanned .ensures) (c .before .before .before .before .if3 .left), scan-last (ordersUsed d b w k) (lastOrder d b w k (c .before .before .before .before .before .before .before .number-of .result)) (c .before .before .before .before .before .before .orders-scanned .ensures) (c .before .before .before .before .if3 .left), c .before .before .before .before .before .before .before .number-of .ensures, ← c .before .before .before .before .before .before .before .before .customer-of .ensures, c .before .before .found .given .1)
 
 pub used-spec : {M : Type 1} → statement M
 used-spec =
     tie.close
     (tie.spec
     district-used-requires
-    refused-requires
+    nothing-seen-requires
     returns
     who-used-requires
-    refused-requires-2
+    nothing-seen-requires-2
     returns-2
     customer-of-requires
     number-of-requires
     orders-scanned-requires
-    refused-requires-3
+    nothing-seen-requires-3
     returns-3
     enum-known-found
     enum-told
-    refused-requires-4
+    nothing-seen-requires-4
     returns-4
+    refused-requires
     returns-5)

@@ -9,30 +9,24 @@ use Rattle.order_status.proofs.who_used.Lts as lts
 use Rattle.lookup.proofs.named_used.Reads as named-used-reads
 use Rattle.rows.proofs.customer_used.Reads as customer-used-reads
 
--- src/lib.rt:283:27
 enum-known-who : tie.Need-enum-known-who
 enum-known-who c = search needs
 
--- src/lib.rt:283:33
 customer-used-requires : tie.Need-customer-used-requires
 customer-used-requires c κs =
     (c .before .before .before .before .before .pre .0, (c .before .before .before .before .before .pre .1 .0, (c .before .before .before .before .before .pre .1 .1 .0, number-in _ _ _ _ (c .before .who .given .1) (c .before .before .before .before .before .pre .1 .1 .1 .1))))
 
--- src/lib.rt:284:32
 enum-told : tie.Need-enum-told
 enum-told c = search needs
 
--- src/lib.rt:284:67
 named-used-requires : tie.Need-named-used-requires
 named-used-requires c κs = search needs
 
--- src/lib.rt:270:1
 returns : tie.Need-returns
 unfolding whoUsed
 returns c =
     rw (c .before .before .who .given .1) (c .customer-used .ensures)
 
--- src/lib.rt:270:1
 returns-2 : tie.Need-returns-2
 unfolding whoUsed
 returns-2 c =

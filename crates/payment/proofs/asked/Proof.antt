@@ -1,85 +1,105 @@
+use Rattle.model.proofs.TestLaws.{and-same, turned-away, passed-on}
+use Rattle.model.proofs.TestLaws.{turned-away, passed-on}
 use Rattle.model.specs.Payment.{payAsked}
-use borrow.Author.Tests.{not-true, not-false}
 use Prim.Native.Nat.{_-_}
 use borrow.Author.Needs.{needs}
 use Rattle.payment.proofs.asked.Statement.{statement}
 use Rattle.payment.proofs.asked.Tie as tie
 use Rattle.payment.proofs.asked.Reads as reads
 use Rattle.payment.proofs.asked.Lts as lts
+use Rattle.cells.proofs.refused.Reads as refused-reads
+use Rattle.cells.proofs.within.Reads as within-reads
 use Rattle.lookup.proofs.who_ok.Reads as who-ok-reads
-use Rattle.payment.proofs.amount_ok.Reads as amount-ok-reads
-use Rattle.payment.proofs.date_ok.Reads as date-ok-reads
-use Rattle.payment.proofs.districts_ok.Reads as districts-ok-reads
-use Rattle.payment.proofs.warehouses_ok.Reads as warehouses-ok-reads
 
--- src/lib.rt:80:9
-warehouses-ok-requires : tie.Need-warehouses-ok-requires
-warehouses-ok-requires c κs = search needs
+within-requires : tie.Need-within-requires
+within-requires c κs = search needs
 
--- src/lib.rt:81:9
+within-requires-2 : tie.Need-within-requires-2
+within-requires-2 c κs = search needs
+
+refused-requires : tie.Need-refused-requires
+refused-requires c κs = search needs
+
 returns : tie.Need-returns
 unfolding payAsked
 returns c =
-    simp (← c .before .warehouses-ok .ensures, not-true (c .before .warehouses-ok .result) (c .if1 .taken))
+    turned-away 4 _ (and-same (c .before .before .within2 .ensures) (c .before .before .before .within .ensures)) (c .before .if1 .taken) (c .refused .ensures)
 
--- src/lib.rt:83:9
-districts-ok-requires : tie.Need-districts-ok-requires
-districts-ok-requires c κs = search needs
+within-requires-3 : tie.Need-within-requires-3
+within-requires-3 c κs = search needs
 
--- src/lib.rt:84:9
+within-requires-4 : tie.Need-within-requires-4
+within-requires-4 c κs = search needs
+
+refused-requires-2 : tie.Need-refused-requires-2
+refused-requires-2 c κs = search needs
+
 returns-2 : tie.Need-returns-2
 unfolding payAsked
 returns-2 c =
-    simp (← c .before .before .before .warehouses-ok .ensures, not-false (c .before .before .before .warehouses-ok .result) (c .before .before .if1 .left), ← c .before .districts-ok .ensures, not-true (c .before .districts-ok .result) (c .if2 .taken))
+    passed-on 4 _ (and-same (c .before .before .before .before .before .within2 .ensures) (c .before .before .before .before .before .before .within .ensures)) (c .before .before .before .before .if1 .left) (turned-away 5 _ (and-same (c .before .before .within4 .ensures) (c .before .before .before .within3 .ensures)) (c .before .if2 .taken) (c .refused2 .ensures))
 
--- src/lib.rt:86:9
 who-ok-requires : tie.Need-who-ok-requires
 who-ok-requires c κs = search needs
 
--- src/lib.rt:87:9
+refused-requires-3 : tie.Need-refused-requires-3
+refused-requires-3 c κs = search needs
+
 returns-3 : tie.Need-returns-3
 unfolding payAsked
 returns-3 c =
-    simp (← c .before .before .before .before .before .warehouses-ok .ensures, not-false (c .before .before .before .before .before .warehouses-ok .result) (c .before .before .before .before .if1 .left), ← c .before .before .before .districts-ok .ensures, not-false (c .before .before .before .districts-ok .result) (c .before .before .if2 .left), ← c .before .who-ok .ensures, not-true (c .before .who-ok .result) (c .if3 .taken))
+    passed-on 4 _ (and-same (c .before .before .before .before .before .before .before .within2 .ensures) (c .before .before .before .before .before .before .before .before .within .ensures)) (c .before .before .before .before .before .before .if1 .left) (passed-on 5 _ (and-same (c .before .before .before .before .within4 .ensures) (c .before .before .before .before .before .within3 .ensures)) (c .before .before .before .if2 .left) (turned-away 6 _ (c .before .before .who-ok .ensures) (c .before .if3 .taken) (c .refused3 .ensures)))
 
--- src/lib.rt:89:9
-date-ok-requires : tie.Need-date-ok-requires
-date-ok-requires c κs = search needs
+within-requires-5 : tie.Need-within-requires-5
+within-requires-5 c κs = search needs
 
--- src/lib.rt:90:9
+refused-requires-4 : tie.Need-refused-requires-4
+refused-requires-4 c κs = search needs
+
 returns-4 : tie.Need-returns-4
 unfolding payAsked
 returns-4 c =
-    simp (← c .before .before .before .before .before .before .before .warehouses-ok .ensures, not-false (c .before .before .before .before .before .before .before .warehouses-ok .result) (c .before .before .before .before .before .before .if1 .left), ← c .before .before .before .before .before .districts-ok .ensures, not-false (c .before .before .before .before .before .districts-ok .result) (c .before .before .before .before .if2 .left), ← c .before .before .before .who-ok .ensures, not-false (c .before .before .before .who-ok .result) (c .before .before .if3 .left), ← c .before .date-ok .ensures, not-true (c .before .date-ok .result) (c .if4 .taken))
+    passed-on 4 _ (and-same (c .before .before .before .before .before .before .before .before .before .within2 .ensures) (c .before .before .before .before .before .before .before .before .before .before .within .ensures)) (c .before .before .before .before .before .before .before .before .if1 .left) (passed-on 5 _ (and-same (c .before .before .before .before .before .before .within4 .ensures) (c .before .before .before .before .before .before .before .within3 .ensures)) (c .before .before .before .before .before .if2 .left) (passed-on 6 _ (c .before .before .before .before .who-ok .ensures) (c .before .before .before .if3 .left) (turned-away 7 _ (c .before .before .within5 .ensures) (c .before .if4 .taken) (c .refused4 .ensures))))
 
--- src/lib.rt:92:9
-amount-ok-requires : tie.Need-amount-ok-requires
-amount-ok-requires c κs = search needs
+within-requires-6 : tie.Need-within-requires-6
+within-requires-6 c κs = search needs
 
--- src/lib.rt:93:9
+refused-requires-5 : tie.Need-refused-requires-5
+refused-requires-5 c κs = search needs
+
 returns-5 : tie.Need-returns-5
 unfolding payAsked
 returns-5 c =
-    simp (← c .before .before .before .before .before .before .before .before .before .warehouses-ok .ensures, not-false (c .before .before .before .before .before .before .before .before .before .warehouses-ok .result) (c .before .before .before .before .before .before .before .before .if1 .left), ← c .before .before .before .before .before .before .before .districts-ok .ensures, not-false (c .before .before .before .before .before .before .before .districts-ok .result) (c .before .before .before .before .before .before .if2 .left), ← c .before .before .before .before .before .who-ok .ensures, not-false (c .before .before .before .before .before .who-ok .result) (c .before .before .before .before .if3 .left), ← c .before .before .before .date-ok .ensures, not-false (c .before .before .before .date-ok .result) (c .before .before .if4 .left), ← c .before .amount-ok .ensures, not-true (c .before .amount-ok .result) (c .if5 .taken))
+    passed-on 4 _ (and-same (c .before .before .before .before .before .before .before .before .before .before .before .within2 .ensures) (c .before .before .before .before .before .before .before .before .before .before .before .before .within .ensures)) (c .before .before .before .before .before .before .before .before .before .before .if1 .left) (passed-on 5 _ (and-same (c .before .before .before .before .before .before .before .before .within4 .ensures) (c .before .before .before .before .before .before .before .before .before .within3 .ensures)) (c .before .before .before .before .before .before .before .if2 .left) (passed-on 6 _ (c .before .before .before .before .before .before .who-ok .ensures) (c .before .before .before .before .before .if3 .left) (passed-on 7 _ (c .before .before .before .before .within5 .ensures) (c .before .before .before .if4 .left) (turned-away 8 _ (c .before .before .within6 .ensures) (c .before .if5 .taken) (c .refused5 .ensures)))))
 
--- src/lib.rt:77:1
+refused-requires-6 : tie.Need-refused-requires-6
+refused-requires-6 c κs = search needs
+
 returns-6 : tie.Need-returns-6
 unfolding payAsked
 returns-6 c =
-    simp (← c .before .before .before .before .before .before .before .before .before .warehouses-ok .ensures, not-false (c .before .before .before .before .before .before .before .before .before .warehouses-ok .result) (c .before .before .before .before .before .before .before .before .if1 .left), ← c .before .before .before .before .before .before .before .districts-ok .ensures, not-false (c .before .before .before .before .before .before .before .districts-ok .result) (c .before .before .before .before .before .before .if2 .left), ← c .before .before .before .before .before .who-ok .ensures, not-false (c .before .before .before .before .before .who-ok .result) (c .before .before .before .before .if3 .left), ← c .before .before .before .date-ok .ensures, not-false (c .before .before .before .date-ok .result) (c .before .before .if4 .left), ← c .before .amount-ok .ensures, not-false (c .before .amount-ok .result) (c .if5 .left))
+    passed-on 4 _ (and-same (c .before .before .before .before .before .before .before .before .before .before .before .within2 .ensures) (c .before .before .before .before .before .before .before .before .before .before .before .before .within .ensures)) (c .before .before .before .before .before .before .before .before .before .before .if1 .left) (passed-on 5 _ (and-same (c .before .before .before .before .before .before .before .before .within4 .ensures) (c .before .before .before .before .before .before .before .before .before .within3 .ensures)) (c .before .before .before .before .before .before .before .if2 .left) (passed-on 6 _ (c .before .before .before .before .before .before .who-ok .ensures) (c .before .before .before .before .before .if3 .left) (passed-on 7 _ (c .before .before .before .before .within5 .ensures) (c .before .before .before .if4 .left) (passed-on 8 _ (c .before .before .within6 .ensures) (c .before .if5 .left) (c .refused6 .ensures)))))
 
 pub asked-spec : {M : Type 1} → statement M
 asked-spec =
     tie.close
     (tie.spec
-    warehouses-ok-requires
+    within-requires
+    within-requires-2
+    refused-requires
     returns
-    districts-ok-requires
+    within-requires-3
+    within-requires-4
+    refused-requires-2
     returns-2
     who-ok-requires
+    refused-requires-3
     returns-3
-    date-ok-requires
+    within-requires-5
+    refused-requires-4
     returns-4
-    amount-ok-requires
+    within-requires-6
+    refused-requires-5
     returns-5
+    refused-requires-6
     returns-6)

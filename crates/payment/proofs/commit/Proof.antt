@@ -11,19 +11,15 @@ use Rattle.payment.proofs.commit.Lts as lts
 use Rattle.payment.proofs.plan_of.Reads as plan-of-reads
 use Rattle.payment.proofs.store_plan.Reads as store-plan-reads
 
--- src/lib.rt:270:9
 plan-of-requires : tie.Need-plan-of-requires
 plan-of-requires c κs = search needs
 
--- src/lib.rt:271:5
 store-plan-requires : tie.Need-store-plan-requires
 store-plan-requires c κs = search needs
 
--- src/lib.rt:266:1
 same-length : tie.Need-same-length
 same-length c = search needs
 
--- src/lib.rt:266:1
 returns : tie.Need-returns
 unfolding paidBalance planOf
 returns c =

@@ -1,75 +1,90 @@
+use lib.ListN.{length}
+use Rattle.model.specs.Names.{whoOf}
+use Rattle.model.specs.Head.{dims, headOk}
+use Rattle.model.specs.Payment.{payAsked, payUsed, paymentFault}
+use Rattle.model.proofs.TestLaws.{staged-head}
+use Rattle.layout.proofs.Heads.{head-read, head-damaged}
+use Rattle.payment.proofs.Joint.{turned-call, refusal-is, pays, paid-call}
 use Rattle.cells.proofs.Signed.{held}
-use Rattle.model.proofs.Fields.{head-shaped}
-use Rattle.payment.proofs.Joint.{head-answer, head-book, pays, paid-answer, paid-book, kept-answer, kept-book}
-use borrow.Author.Tests.{not-true, not-false}
-use mathlib.Core.Path.{sym, _∙_}
+use Prim.Native.Nat.{_-_}
+use mathlib.Core.Path.{_≡_, ap, _∙_}
+use native.Mathlib.Omega.{arith}
 use borrow.Author.Needs.{needs}
 use Rattle.payment.proofs.payment.Statement.{statement}
 use Rattle.payment.proofs.payment.Tie as tie
 use Rattle.payment.proofs.payment.Reads as reads
 use Rattle.payment.proofs.payment.Lts as lts
-use Rattle.layout.proofs.dims_of.Reads as dims-of-reads
-use Rattle.layout.proofs.head_ok.Reads as head-ok-reads
+use Rattle.cells.proofs.refused.Reads as refused-reads
+use Rattle.layout.proofs.head_of.Reads as head-of-reads
 use Rattle.payment.proofs.commit.Reads as commit-reads
-use Rattle.payment.proofs.payer_of.Reads as payer-of-reads
+use Rattle.payment.proofs.payer_in.Reads as payer-in-reads
+use Rattle.payment.proofs.turned_away.Reads as turned-away-reads
 
--- src/lib.rt:285:9
-head-ok-requires : tie.Need-head-ok-requires
-head-ok-requires c κs = search needs
+head-of-requires : tie.Need-head-of-requires
+head-of-requires c κs = search needs
 
--- src/lib.rt:291:9
+enum-known-d : tie.Need-enum-known-d
+enum-known-d c = search needs
+
+enum-told : tie.Need-enum-told
+enum-told c = search needs
+
+refused-requires : tie.Need-refused-requires
+refused-requires c κs = search needs
+
+turned-away-requires : tie.Need-turned-away-requires
+turned-away-requires c κs = search needs
+
 same-length : tie.Need-same-length
 same-length c = search needs
 
--- src/lib.rt:291:9
 returns : tie.Need-returns
+unfolding paymentFault
 returns c =
-    (head-answer _ _ _ _ (sym (c .before .head-ok .ensures) ∙ not-true (c .before .head-ok .result) (c .if1 .taken)), head-book _ _ _ _ (sym (c .before .head-ok .ensures) ∙ not-true (c .before .head-ok .result) (c .if1 .taken)))
+    let b = c .before .before .before .before .before .before .before .before .args .b .now in let names = c .before .before .before .before .before .before .before .before .args .names .now in let q = c .before .before .before .before .before .before .before .before .args .q in let w = whoOf (c .before .before .before .before .before .before .before .before .args .who) (c .before .before .before .before .before .before .before .before .args .name .now) in
+    let z : c .before .refused .result .number ≡ 2 = ap (λ r. r .number) (c .before .refused .ensures) in
+    turned-call b names q w (c .before .refused .ensures ∙ staged-head (headOk b (length names)) (payAsked (dims b) q w) (payUsed (dims b) b names q w) (head-damaged b (length names) (c .before .before .before .before .head-of .ensures) (c .before .before .enum-told .given .1))) (λ y. omega (arith, z, y)) (c .turned-away .ensures)
 
--- src/lib.rt:293:9
-dims-of-requires : tie.Need-dims-of-requires
-dims-of-requires c κs =
-    head-shaped _ _ (sym (c .before .before .head-ok .ensures) ∙ not-false (c .before .before .head-ok .result) (c .before .if1 .left)) .six
+payer-in-requires : tie.Need-payer-in-requires
+payer-in-requires c κs =
+    head-read (c .before .before .before .before .before .before .before .before .args .b .now) (length (c .before .before .before .before .before .before .before .before .args .names .now)) (c .before .before .before .before .head-of .ensures) (c .before .before .d .given .1) .shaped
 
--- src/lib.rt:294:9
-payer-of-requires : tie.Need-payer-of-requires
-payer-of-requires c κs =
-    (c .before .dims-of .ensures, sym (c .before .before .before .before .head-ok .ensures) ∙ not-false (c .before .before .before .before .head-ok .result) (c .before .before .before .if1 .left))
-
--- src/lib.rt:297:13
 commit-requires : tie.Need-commit-requires
 commit-requires c κs =
-    rw (c .before .before .before .before .before .before .dims-of .ensures) (pays _ _ _ _ (c .before .before .before .before .payer-of .ensures) (c .before .if2 .taken))
+    pays (c .before .before .before .before .before .before .before .before .before .before .before .before .before .args .b .now) (c .before .before .before .before .before .before .before .before .before .before .before .before .before .args .names .now) (c .before .before .before .before .before .before .before .before .before .before .before .before .before .args .q) (whoOf (c .before .before .before .before .before .before .before .before .before .before .before .before .before .args .who) (c .before .before .before .before .before .before .before .before .before .before .before .before .before .args .name .now)) (head-read (c .before .before .before .before .before .before .before .before .before .before .before .before .before .args .b .now) (length (c .before .before .before .before .before .before .before .before .before .before .before .before .before .args .names .now)) (c .before .before .before .before .before .before .before .before .before .head-of .ensures) (c .before .before .before .before .before .before .before .d .given .1)) (c .before .before .before .before .payer-in .ensures) (c .before .if1 .taken)
 
--- src/lib.rt:302:9
 same-length-2 : tie.Need-same-length-2
 same-length-2 c = search needs
 
--- src/lib.rt:302:9
 returns-2 : tie.Need-returns-2
 returns-2 c =
-    (rw (held {z = c .before .commit .result} (c .before .commit .ok), c .before .commit .ensures .0, c .before .before .before .before .before .before .before .before .dims-of .ensures) (paid-answer _ _ _ _ (c .before .before .before .before .before .before .payer-of .ensures) (c .before .before .before .if2 .taken)), c .before .commit .ensures .1 ∙ rw (c .before .before .before .before .before .before .before .before .dims-of .ensures) (paid-book _ _ _ _ (c .before .before .before .before .before .before .payer-of .ensures) (c .before .before .before .if2 .taken)))
+    paid-call (c .before .before .before .before .before .before .before .before .before .before .before .before .before .before .before .args .b .now) (c .before .before .before .before .before .before .before .before .before .before .before .before .before .before .before .args .names .now) (c .before .before .before .before .before .before .before .before .before .before .before .before .before .before .before .args .q) (whoOf (c .before .before .before .before .before .before .before .before .before .before .before .before .before .before .before .args .who) (c .before .before .before .before .before .before .before .before .before .before .before .before .before .before .before .args .name .now)) (head-read (c .before .before .before .before .before .before .before .before .before .before .before .before .before .before .before .args .b .now) (length (c .before .before .before .before .before .before .before .before .before .before .before .before .before .before .before .args .names .now)) (c .before .before .before .before .before .before .before .before .before .before .before .head-of .ensures) (c .before .before .before .before .before .before .before .before .before .d .given .1)) (c .before .before .before .before .before .before .payer-in .ensures) (c .before .before .before .if1 .taken) (rw (held {z = c .before .commit .result} (c .before .commit .ok), c .before .commit .ensures .0)) (c .before .commit .ensures .1)
 
--- src/lib.rt:276:1
+turned-away-requires-2 : tie.Need-turned-away-requires-2
+turned-away-requires-2 c κs = search needs
+
 same-length-3 : tie.Need-same-length-3
 same-length-3 c = search needs
 
--- src/lib.rt:276:1
 returns-3 : tie.Need-returns-3
 returns-3 c =
-    (kept-answer _ _ _ _ (c .before .before .before .payer-of .ensures) (c .if2 .left), kept-book _ _ _ _ (c .before .before .before .payer-of .ensures) (c .if2 .left))
+    turned-call (c .before .before .before .before .before .before .before .before .before .before .before .before .before .args .b .now) (c .before .before .before .before .before .before .before .before .before .before .before .before .before .args .names .now) (c .before .before .before .before .before .before .before .before .before .before .before .before .before .args .q) (whoOf (c .before .before .before .before .before .before .before .before .before .before .before .before .before .args .who) (c .before .before .before .before .before .before .before .before .before .before .before .before .before .args .name .now)) (refusal-is (c .before .before .before .before .before .before .before .before .before .before .before .before .before .args .b .now) (c .before .before .before .before .before .before .before .before .before .before .before .before .before .args .names .now) (c .before .before .before .before .before .before .before .before .before .before .before .before .before .args .q) (whoOf (c .before .before .before .before .before .before .before .before .before .before .before .before .before .args .who) (c .before .before .before .before .before .before .before .before .before .before .before .before .before .args .name .now)) (head-read (c .before .before .before .before .before .before .before .before .before .before .before .before .before .args .b .now) (length (c .before .before .before .before .before .before .before .before .before .before .before .before .before .args .names .now)) (c .before .before .before .before .before .before .before .before .before .head-of .ensures) (c .before .before .before .before .before .before .before .d .given .1)) (c .before .before .before .before .payer-in .ensures)) (c .before .if1 .left) (c .turned-away2 .ensures)
 
 pub payment-spec : {M : Type 1} → statement M
 payment-spec =
     tie.close
     (tie.spec
-    head-ok-requires
+    head-of-requires
+    enum-known-d
+    enum-told
+    refused-requires
+    turned-away-requires
     same-length
     returns
-    dims-of-requires
-    payer-of-requires
+    payer-in-requires
     commit-requires
     same-length-2
     returns-2
+    turned-away-requires-2
     same-length-3
     returns-3)

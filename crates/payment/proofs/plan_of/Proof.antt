@@ -22,103 +22,81 @@ use Rattle.layout.proofs.district_at.Reads as district-at-reads
 use Rattle.layout.proofs.history_at.Reads as history-at-reads
 use Rattle.layout.proofs.warehouse_at.Reads as warehouse-at-reads
 
--- src/lib.rt:53:21
 warehouse-at-requires : tie.Need-warehouse-at-requires
 warehouse-at-requires c κs = search needs
 
--- src/lib.rt:53:21
 add-warehouse : tie.Need-add-warehouse
 add-warehouse c = search needs
 
--- src/lib.rt:54:20
 district-at-requires : tie.Need-district-at-requires
 district-at-requires c κs = search needs
 
--- src/lib.rt:54:20
 add-district : tie.Need-add-district
 add-district c = search needs
 
--- src/lib.rt:55:9
 customer-at-requires : tie.Need-customer-at-requires
 customer-at-requires c κs = search needs
 
--- src/lib.rt:56:24
 held-requires : tie.Need-held-requires
 held-requires c κs =
     (search needs, omega (arith, read-is (c .before .before .before .args .d) (c .before .before .before .args .b .now) 1 (c .before .before .before .args .q .warehouse) 1 1 1 refl (c .before .before .warehouse-at .ensures .0), c .before .before .before .pre .warehouse .ytd))
 
--- src/lib.rt:56:24
 add-warehouseytd : tie.Need-add-warehouseytd
 add-warehouseytd c =
     let h1 : c .before .held .result ≤ 999999999999 = rw (read-is (c .before .before .before .before .before .args .d) (c .before .before .before .before .before .args .b .now) 1 (c .before .before .before .before .before .args .q .warehouse) 1 1 1 (c .before .held .ensures) (c .before .before .before .before .warehouse-at .ensures .0)) (c .before .before .before .before .before .pre .warehouse .ytd) in omega (arith, c .before .before .before .before .before .pre .amount-high)
 
--- src/lib.rt:57:23
 held-requires-2 : tie.Need-held-requires-2
 held-requires-2 c κs =
     (search needs, omega (arith, read-is (c .before .before .before .before .before .args .d) (c .before .before .before .before .before .args .b .now) 2 (c .before .before .before .before .before .args .q .warehouse) (c .before .before .before .before .before .args .q .district) 1 1 refl (c .before .before .before .district-at .ensures .0), c .before .before .before .before .before .pre .district .ytd))
 
--- src/lib.rt:57:23
 add-districtytd : tie.Need-add-districtytd
 add-districtytd c =
     let h2 : c .before .held2 .result ≤ 999999999999 = rw (read-is (c .before .before .before .before .before .before .before .args .d) (c .before .before .before .before .before .before .before .args .b .now) 2 (c .before .before .before .before .before .before .before .args .q .warehouse) (c .before .before .before .before .before .before .before .args .q .district) 1 1 (c .before .held2 .ensures) (c .before .before .before .before .before .district-at .ensures .0)) (c .before .before .before .before .before .before .before .pre .district .ytd) in omega (arith, c .before .before .before .before .before .before .before .pre .amount-high)
 
--- src/lib.rt:58:19
 add-balance : tie.Need-add-balance
 add-balance c = search needs
 
--- src/lib.rt:59:42
 get-signed-requires : tie.Need-get-signed-requires
 get-signed-requires c κs = search needs
 
--- src/lib.rt:59:9
 balance-less-requires : tie.Need-balance-less-requires
 balance-less-requires c κs =
     (rw (held (c .get-signed .ok), c .get-signed .ensures, c .before .before .before .before .before .customer-at .ensures .0, get-col (shapes (c .before .before .before .before .before .before .before .before .args .d)) (c .before .before .before .before .before .before .before .before .args .b .now) 3 (c .before .before .before .before .before .before .before .before .args .q .custwarehouse) (c .before .before .before .before .before .before .before .before .args .q .custdistrict) (c .before .before .before .before .before .before .before .before .args .c) 2) (c .before .before .before .before .before .before .before .before .pre .customer .balanced), omega (arith, c .before .before .before .before .before .before .before .before .pre .amount-high))
 
--- src/lib.rt:60:16
 add-paid : tie.Need-add-paid
 add-paid c = search needs
 
--- src/lib.rt:61:19
 held-requires-3 : tie.Need-held-requires-3
 held-requires-3 c κs =
     (search needs, omega (arith, read-is (c .before .before .before .before .before .before .before .before .before .args .d) (c .before .before .before .before .before .before .before .before .before .args .b .now) 3 (c .before .before .before .before .before .before .before .before .before .args .q .custwarehouse) (c .before .before .before .before .before .before .before .before .before .args .q .custdistrict) (c .before .before .before .before .before .before .before .before .before .args .c) 3 refl (c .before .before .before .before .before .before .customer-at .ensures .0), c .before .before .before .before .before .before .before .before .before .pre .customer .paid))
 
--- src/lib.rt:61:19
 add-newpaid : tie.Need-add-newpaid
 add-newpaid c =
     let h3 : c .before .held3 .result ≤ 999999999999 = rw (read-is (c .before .before .before .before .before .before .before .before .before .before .before .args .d) (c .before .before .before .before .before .before .before .before .before .before .before .args .b .now) 3 (c .before .before .before .before .before .before .before .before .before .before .before .args .q .custwarehouse) (c .before .before .before .before .before .before .before .before .before .before .before .args .q .custdistrict) (c .before .before .before .before .before .before .before .before .before .before .before .args .c) 3 (c .before .held3 .ensures) (c .before .before .before .before .before .before .before .before .customer-at .ensures .0)) (c .before .before .before .before .before .before .before .before .before .before .before .pre .customer .paid) in omega (arith, c .before .before .before .before .before .before .before .before .before .before .before .pre .amount-high)
 
--- src/lib.rt:62:20
 add-payments : tie.Need-add-payments
 add-payments c = search needs
 
--- src/lib.rt:63:23
 held-requires-4 : tie.Need-held-requires-4
 held-requires-4 c κs =
     (search needs, omega (arith, read-is (c .before .before .before .before .before .before .before .before .before .before .before .args .d) (c .before .before .before .before .before .before .before .before .before .before .before .args .b .now) 3 (c .before .before .before .before .before .before .before .before .before .before .before .args .q .custwarehouse) (c .before .before .before .before .before .before .before .before .before .before .before .args .q .custdistrict) (c .before .before .before .before .before .before .before .before .before .before .before .args .c) 4 refl (c .before .before .before .before .before .before .before .before .customer-at .ensures .0), c .before .before .before .before .before .before .before .before .before .before .before .pre .customer .payments))
 
--- src/lib.rt:63:23
 add-newpayments : tie.Need-add-newpayments
 add-newpayments c =
     let h4 : c .held4 .result ≤ 999999999 = rw (read-is (c .before .before .before .before .before .before .before .before .before .before .before .before .args .d) (c .before .before .before .before .before .before .before .before .before .before .before .before .args .b .now) 3 (c .before .before .before .before .before .before .before .before .before .before .before .before .args .q .custwarehouse) (c .before .before .before .before .before .before .before .before .before .before .before .before .args .q .custdistrict) (c .before .before .before .before .before .before .before .before .before .before .before .before .args .c) 4 (c .held4 .ensures) (c .before .before .before .before .before .before .before .before .before .customer-at .ensures .0)) (c .before .before .before .before .before .before .before .before .before .before .before .before .pre .customer .payments) in omega arith
 
--- src/lib.rt:64:17
 held-requires-5 : tie.Need-held-requires-5
 held-requires-5 c κs =
     (search needs, omega (arith, head-num (c .before .before .before .before .before .before .before .before .before .before .before .before .args .d) (c .before .before .before .before .before .before .before .before .before .before .before .before .args .b .now), c .before .before .before .before .before .before .before .before .before .before .before .before .pre .room, c .before .before .before .before .before .before .before .before .before .before .before .before .pre .dimsd))
 
--- src/lib.rt:64:17
 add-count : tie.Need-add-count
 add-count c =
     let h5 : c .held5 .result < c .before .before .before .before .before .before .before .before .before .before .before .before .before .args .d .histories = rw (c .held5 .ensures, head-num (c .before .before .before .before .before .before .before .before .before .before .before .before .before .args .d) (c .before .before .before .before .before .before .before .before .before .before .before .before .before .args .b .now)) (c .before .before .before .before .before .before .before .before .before .before .before .before .before .pre .room) in omega (arith, c .before .before .before .before .before .before .before .before .before .before .before .before .before .pre .dimsd)
 
--- src/lib.rt:65:9
 history-at-requires : tie.Need-history-at-requires
 history-at-requires c κs =
     let h5 : c .held5 .result < c .before .before .before .before .before .before .before .before .before .before .before .before .before .args .d .histories = rw (c .held5 .ensures, head-num (c .before .before .before .before .before .before .before .before .before .before .before .before .before .args .d) (c .before .before .before .before .before .before .before .before .before .before .before .before .before .args .b .now)) (c .before .before .before .before .before .before .before .before .before .before .before .before .before .pre .room) in (c .before .before .before .before .before .before .before .before .before .before .before .before .before .pre .dimsd, omega arith)
 
--- src/lib.rt:49:1
 returns : tie.Need-returns
 unfolding planOf cell get
 returns c =

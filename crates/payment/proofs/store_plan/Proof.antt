@@ -10,39 +10,30 @@ use Rattle.cells.proofs.put.Reads as put-reads
 use Rattle.cells.proofs.put_signed.Reads as put-signed-reads
 use Rattle.payment.proofs.store_history.Reads as store-history-reads
 
--- src/lib.rt:101:5
 put-requires : tie.Need-put-requires
 put-requires c κs = search needs
 
--- src/lib.rt:102:5
 put-requires-2 : tie.Need-put-requires-2
 put-requires-2 c κs = search needs
 
--- src/lib.rt:103:5
 put-signed-requires : tie.Need-put-signed-requires
 put-signed-requires c κs = search needs
 
--- src/lib.rt:104:5
 put-requires-3 : tie.Need-put-requires-3
 put-requires-3 c κs = search needs
 
--- src/lib.rt:105:5
 put-requires-4 : tie.Need-put-requires-4
 put-requires-4 c κs = search needs
 
--- src/lib.rt:106:5
 store-history-requires : tie.Need-store-history-requires
 store-history-requires c κs = search needs
 
--- src/lib.rt:107:5
 put-requires-5 : tie.Need-put-requires-5
 put-requires-5 c κs = search needs
 
--- src/lib.rt:97:1
 same-length : tie.Need-same-length
 same-length c = search needs
 
--- src/lib.rt:97:1
 returns : tie.Need-returns
 unfolding storePlan
 returns c =

@@ -6,15 +6,12 @@ use Rattle.payment.proofs.terminal_used.Lts as lts
 use Rattle.rows.proofs.district_used.Reads as district-used-reads
 use Rattle.rows.proofs.warehouse_used.Reads as warehouse-used-reads
 
--- src/lib.rt:183:9
 warehouse-used-requires : tie.Need-warehouse-used-requires
 warehouse-used-requires c κs = search needs
 
--- src/lib.rt:184:9
 district-used-requires : tie.Need-district-used-requires
 district-used-requires c κs = search needs
 
--- src/lib.rt:179:1
 returns : tie.Need-returns
 returns c =
     rw (c .before .warehouse-used .ensures, c .district-used .ensures)

@@ -1,8 +1,10 @@
+use mathlib.Core.Path.{_∙_, subst}
+use Rattle.model.proofs.PaymentFacts.{PayAsked}
 use Rattle.model.specs.declared.Selection.{Selection}
 use Rattle.model.specs.Names.{whoOf}
-use Rattle.model.proofs.PaymentFacts.{PayAsked}
 use Rattle.payment.proofs.Joint.{used-none, used-rest}
-use mathlib.Core.Path.{sym, subst, _∙_}
+use Prim.Native.Nat.{_-_}
+use mathlib.Core.Path.{_∙_}
 use borrow.Author.Needs.{needs}
 use Rattle.payment.proofs.used.Statement.{statement}
 use Rattle.payment.proofs.used.Tie as tie
@@ -10,45 +12,36 @@ use Rattle.payment.proofs.used.Reads as reads
 use Rattle.payment.proofs.used.Lts as lts
 use Rattle.payment.proofs.by_name.Reads as by-name-reads
 use Rattle.payment.proofs.by_number.Reads as by-number-reads
-use Rattle.payment.proofs.refused.Reads as refused-reads
+use Rattle.payment.proofs.nobody_pays.Reads as nobody-pays-reads
 use Rattle.payment.proofs.terminal_used.Reads as terminal-used-reads
 
--- src/lib.rt:193:9
 terminal-used-requires : tie.Need-terminal-used-requires
 terminal-used-requires c κs = search needs
 
--- src/lib.rt:194:9
-refused-requires : tie.Need-refused-requires
-refused-requires c κs = search needs
+nobody-pays-requires : tie.Need-nobody-pays-requires
+nobody-pays-requires c κs = search needs
 
--- src/lib.rt:194:9
 returns : tie.Need-returns
 returns c =
-    c .refused .ensures ∙ used-none _ _ _ _ _ (c .before .before .terminal-used .ensures) (c .before .if1 .taken)
+    c .nobody-pays .ensures ∙ used-none _ _ _ _ _ (c .before .before .terminal-used .ensures) (c .before .if1 .taken)
 
--- src/lib.rt:197:27
 enum-known-who : tie.Need-enum-known-who
 enum-known-who c = search needs
 
--- src/lib.rt:197:33
 by-number-requires : tie.Need-by-number-requires
 by-number-requires c κs =
     (c .before .before .before .before .before .before .before .pre .0, subst (λ (x : Selection). PayAsked (c .before .before .before .before .before .before .before .args .d) (c .before .before .before .before .before .before .before .args .q) (whoOf x (c .before .before .before .before .before .before .before .args .name .now))) (c .before .who .given .1) (c .before .before .before .before .before .before .before .pre .1))
 
--- src/lib.rt:198:32
 enum-told : tie.Need-enum-told
 enum-told c = search needs
 
--- src/lib.rt:198:32
 by-name-requires : tie.Need-by-name-requires
 by-name-requires c κs = search needs
 
--- src/lib.rt:189:1
 returns-2 : tie.Need-returns-2
 returns-2 c =
     rw (c .before .before .who .given .1) (used-rest _ _ _ _ _ (c .before .before .before .before .before .terminal-used .ensures) (c .before .before .before .before .if1 .left) (c .by-number .ensures))
 
--- src/lib.rt:189:1
 returns-3 : tie.Need-returns-3
 returns-3 c =
     rw (c .before .enum-told .given .1) (used-rest _ _ _ _ _ (c .before .before .before .before .terminal-used .ensures) (c .before .before .before .if1 .left) (c .by-name .ensures))
@@ -58,7 +51,7 @@ used-spec =
     tie.close
     (tie.spec
     terminal-used-requires
-    refused-requires
+    nobody-pays-requires
     returns
     enum-known-who
     by-number-requires

@@ -15,38 +15,30 @@ Inv-loop list n x i₀ i = (i ≤ n) × (member x (take n list) ≡ member x (dr
 abbrev μ-loop : tie.MeasureT-loop
 μ-loop list n x i₀ i = n - i
 
--- src/lib.rt:81:5
 loop-holds : tie.Need-loop-holds Inv-loop μ-loop
 loop-holds c =
     (search needs, refl)
 
--- src/lib.rt:82:12
 mul-if1 : tie.Need-mul-if1 Inv-loop μ-loop
 mul-if1 c = search needs
 
--- src/lib.rt:82:12
 shared-slice-read-if1 : tie.Need-shared-slice-read-if1 Inv-loop μ-loop
 shared-slice-read-if1 c = search needs
 
--- src/lib.rt:83:13
 returns : tie.Need-returns Inv-loop μ-loop
 returns c =
     among-here _ _ _ _ (c .before .before .loop-test .taken) (c .before .before .before .before .pre) (c .if1 .taken) (c .before .before .before .loop .inv .1)
 
--- src/lib.rt:85:9
 add-i : tie.Need-add-i Inv-loop μ-loop
 add-i c = search needs
 
--- src/lib.rt:81:5
 loop-less : tie.Need-loop-less Inv-loop μ-loop
 loop-less c = search needs
 
--- src/lib.rt:81:5
 loop-again : tie.Need-loop-again Inv-loop μ-loop
 loop-again c =
     (search needs, among-next _ _ _ _ (c .before .before .loop-test .taken) (c .before .before .before .before .pre) (c .if1 .left) (c .before .before .before .loop .inv .1))
 
--- src/lib.rt:76:1
 returns-2 : tie.Need-returns-2 Inv-loop μ-loop
 returns-2 c =
     among-end _ _ _ _ (c .loop-test .left) (c .before .before .pre) (c .before .loop .inv .1)

@@ -11,59 +11,46 @@ use Rattle.stock_level.proofs.note_item.Lts as lts
 use Rattle.cells.proofs.get.Reads as get-reads
 use Rattle.stock_level.proofs.is_among.Reads as is-among-reads
 
--- src/lib.rt:95:35
 sub-get : tie.Need-sub-get
 sub-get c = search needs
 
--- src/lib.rt:95:30
 mul-get : tie.Need-mul-get
 mul-get c = search needs
 
--- src/lib.rt:95:22
 add-get : tie.Need-add-get
 add-get c = search needs
 
--- src/lib.rt:95:8
 get-requires : tie.Need-get-requires
 get-requires c κs = search needs
 
--- src/lib.rt:96:12
 is-among-requires : tie.Need-is-among-requires
 is-among-requires c κs = search needs
 
--- src/lib.rt:97:13
 same-length : tie.Need-same-length
 same-length c = search needs
 
--- src/lib.rt:97:13
 returns : tie.Need-returns
 unfolding lowAt
 returns c =
     (search needs, rw (← c .before .before .before .before .get .ensures, lt-ltb _ _ (c .before .before .before .if1 .taken), ← c .before .is-among .ensures, c .if2 .taken))
 
--- src/lib.rt:99:9
 mul-list : tie.Need-mul-list
 mul-list c = search needs
 
--- src/lib.rt:99:9
 slice-write-list : tie.Need-slice-write-list
 slice-write-list c = search needs
 
--- src/lib.rt:100:16
 add-result : tie.Need-add-result
 add-result c = search needs
 
--- src/lib.rt:100:9
 same-length-2 : tie.Need-same-length-2
 same-length-2 c = search needs
 
--- src/lib.rt:100:9
 returns-2 : tie.Need-returns-2
 unfolding lowAt
 returns-2 c =
     (search needs, rw (← c .before .before .before .before .get .ensures, lt-ltb _ _ (c .before .before .before .if1 .taken), ← c .before .is-among .ensures, c .if2 .left, add-one) (take-suc-set (c .before .before .before .before .before .before .args .list .now) (c .before .before .before .before .before .before .args .n) (c .before .before .before .before .before .before .args .x) (search needs)))
 
--- src/lib.rt:91:1
 returns-3 : tie.Need-returns-3
 unfolding lowAt
 returns-3 c =

@@ -23,65 +23,52 @@ Inv-loop b stock threshold list₀ n p lines k₀ j₀ list k j = (j ≤ lines) 
 abbrev μ-loop : tie.MeasureT-loop
 μ-loop b stock threshold list₀ n p lines k₀ j₀ list k j = lines - j
 
--- src/lib.rt:110:31
 add-get : tie.Need-add-get Inv-loop μ-loop
 add-get c = search needs
 
--- src/lib.rt:110:9
 get-requires : tie.Need-get-requires Inv-loop μ-loop
 get-requires c κs = search needs
 
--- src/lib.rt:113:5
 loop-holds : tie.Need-loop-holds Inv-loop μ-loop
 unfolding upTo
 loop-holds c =
     (search needs, (c .get .ensures ∙ lines-cell (c .before .before .args .b .now) (c .before .before .args .p), (search needs, (search needs, refl))))
 
--- src/lib.rt:114:34
 add-get-2 : tie.Need-add-get-2 Inv-loop μ-loop
 add-get-2 c =
     omega (arith, c .before .before .before .before .pre .0 .ends, c .before .before .before .before .pre .0 .lines, c .before .loop .inv .1 .0, c .loop-test .taken)
 
--- src/lib.rt:114:42
 mul-get : tie.Need-mul-get Inv-loop μ-loop
 mul-get c =
     omega (arith, c .before .before .before .before .pre .0 .ends, c .before .before .before .before .pre .0 .lines, c .before .loop .inv .1 .0, c .loop-test .taken)
 
--- src/lib.rt:114:34
 add-get-3 : tie.Need-add-get-3 Inv-loop μ-loop
 add-get-3 c =
     omega (arith, c .before .before .before .before .pre .0 .ends, c .before .before .before .before .pre .0 .lines, c .before .loop .inv .1 .0, c .loop-test .taken)
 
--- src/lib.rt:114:13
 get-requires-2 : tie.Need-get-requires-2 Inv-loop μ-loop
 get-requires-2 c κs =
     omega (arith, c .before .before .before .before .pre .0 .ends, c .before .before .before .before .pre .0 .lines, c .before .loop .inv .1 .0, c .loop-test .taken)
 
--- src/lib.rt:115:9
 note-item-requires : tie.Need-note-item-requires Inv-loop μ-loop
 note-item-requires c κs =
     let r : R (nat (from (c .before .before .before .before .before .before .args .b .now) (c .before .before .before .before .before .before .args .p) 3)) (c .before .before .before .loop .j + 1) = record { lo = omega arith; hi = omega (arith, c .before .before .before .loop .inv .1 .0, c .before .before .loop-test .taken) } in
     let e = c .before .get2 .ensures ∙ item-cell (c .before .before .before .before .before .before .args .b .now) (c .before .before .before .before .before .before .args .p) (c .before .before .before .loop .j) in
     (rw e (c .before .before .before .before .before .before .pre .0 .items (c .before .before .before .loop .j + 1) r), omega (arith, c .before .before .before .before .before .before .pre .0 .lines, c .before .before .before .before .before .before .pre .1, c .before .before .before .loop .inv, c .before .before .loop-test .taken))
 
--- src/lib.rt:116:9
 add-j : tie.Need-add-j Inv-loop μ-loop
 add-j c = search needs
 
--- src/lib.rt:113:5
 loop-less : tie.Need-loop-less Inv-loop μ-loop
 loop-less c = search needs
 
--- src/lib.rt:113:5
 loop-again : tie.Need-loop-again Inv-loop μ-loop
 loop-again c =
     (search needs, (search needs, (search needs, (search needs, line-turn (c .before .before .before .before .before .before .before .before .before .args .b .now) (c .before .before .before .before .before .before .before .before .before .args .stock) (c .before .before .before .before .before .before .before .before .before .args .threshold) (take (c .before .before .before .before .before .before .before .before .before .args .n) (c .before .before .before .before .before .before .before .before .before .args .list .now)) (c .before .before .before .before .before .before .before .before .before .args .p) (c .before .before .before .before .before .before .loop .j) (take (c .before .before .before .before .before .before .loop .k) (c .before .before .before .before .before .before .loop .list)) (c .before .before .before .before .before .before .loop .inv .1 .1 .1 .1) (c .before .before .before .before .get2 .ensures) (c .before .before .note-item .ensures .1)))))
 
--- src/lib.rt:106:1
 same-length : tie.Need-same-length Inv-loop μ-loop
 same-length c = search needs
 
--- src/lib.rt:106:1
 returns : tie.Need-returns Inv-loop μ-loop
 returns c =
     let e : c .before .loop .j ≡ nat (from (c .before .before .before .before .args .b .now) (c .before .before .before .before .args .p) 3) = le-antisymm (c .before .loop .inv .0) (c .loop-test .left) ∙ c .before .loop .inv .1 .0 in

@@ -17,49 +17,40 @@ Inv-loop buffer₀ at line n i₀ buffer i = (i ≤ n) × ((length buffer ≡ le
 abbrev μ-loop : tie.MeasureT-loop
 μ-loop buffer₀ at line n i₀ buffer i = n - i
 
--- src/lib.rt:604:5
 loop-holds : tie.Need-loop-holds Inv-loop μ-loop
 loop-holds c =
     (search needs, (search needs, paste-zero (c .args .buffer .now) (c .args .at) (c .args .line .now)))
 
--- src/lib.rt:605:26
 shared-slice-read-buffer : tie.Need-shared-slice-read-buffer Inv-loop μ-loop
 shared-slice-read-buffer c =
     search needs
 
--- src/lib.rt:605:16
 add-buffer : tie.Need-add-buffer Inv-loop μ-loop
 add-buffer c =
     search needs
 
--- src/lib.rt:605:9
 slice-write-buffer : tie.Need-slice-write-buffer Inv-loop μ-loop
 slice-write-buffer c =
     search needs
 
--- src/lib.rt:606:9
 add-i : tie.Need-add-i Inv-loop μ-loop
 add-i c =
     search needs
 
--- src/lib.rt:604:5
 loop-less : tie.Need-loop-less Inv-loop μ-loop
 loop-less c =
     search needs
 
--- src/lib.rt:604:5
 loop-again : tie.Need-loop-again Inv-loop μ-loop
 loop-again c =
     let h : c .before .before .before .args .at + c .before .before .loop .i < length (c .before .before .before .args .buffer .now) = omega (arith, c .before .loop-test .taken, c .before .before .before .pre .0) in
     let k : c .before .before .loop .i < length (c .before .before .before .args .line .now) = omega (arith, c .before .loop-test .taken, c .before .before .before .pre .1) in
     (search needs, (simp length-set (search needs), copy-step _ _ _ _ _ h k (c .before .before .loop .inv .1 .1)))
 
--- src/lib.rt:599:1
 same-length : tie.Need-same-length Inv-loop μ-loop
 same-length c =
     search needs
 
--- src/lib.rt:599:1
 returns : tie.Need-returns Inv-loop μ-loop
 returns c =
     let e : c .before .loop .i ≡ c .before .before .args .n = le-antisymm (c .before .loop .inv .0) (c .loop-test .left) in rw e at (c .before .loop .inv .1 .1)

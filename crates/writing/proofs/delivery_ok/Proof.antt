@@ -1,25 +1,20 @@
 use borrow.Author.Needs.{needs}
 use Rattle.model.specs.RequestLine.{hasForm}
-use borrow.Author.Needs.{needs}
 use Rattle.writing.proofs.delivery_ok.Statement.{statement}
 use Rattle.writing.proofs.delivery_ok.Tie as tie
 use Rattle.writing.proofs.delivery_ok.Reads as reads
 use Rattle.writing.proofs.delivery_ok.Lts as lts
 use Rattle.writing.proofs.small.Reads as small-reads
 
--- src/lib.rt:813:5
 small-requires : tie.Need-small-requires
 small-requires c κs = search needs
 
--- src/lib.rt:813:26
 small-requires-2 : tie.Need-small-requires-2
 small-requires-2 c κs = search needs
 
--- src/lib.rt:813:45
 small-requires-3 : tie.Need-small-requires-3
 small-requires-3 c κs = search needs
 
--- src/lib.rt:810:1
 returns : tie.Need-returns
 unfolding hasForm
 returns c =

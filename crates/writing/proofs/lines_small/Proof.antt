@@ -20,74 +20,60 @@ Inv-loop items supplies quantities n i₀ i = (i ≤ n) × ((n ≡ length (lines
 abbrev μ-loop : tie.MeasureT-loop
 μ-loop items supplies quantities n i₀ i = n - i
 
--- src/lib.rt:672:9
 count-requires : tie.Need-count-requires Inv-loop μ-loop
 count-requires c κs =
     search needs
 
--- src/lib.rt:674:5
 loop-holds : tie.Need-loop-holds Inv-loop μ-loop
 loop-holds c =
     (search needs, (search needs, (search needs, (search needs, (search needs, refl)))))
 
--- src/lib.rt:675:24
 mul-line-small : tie.Need-mul-line-small Inv-loop μ-loop
 mul-line-small c =
     search needs
 
--- src/lib.rt:675:24
 shared-slice-read-line-small : tie.Need-shared-slice-read-line-small Inv-loop μ-loop
 shared-slice-read-line-small c =
     search needs
 
--- src/lib.rt:675:34
 mul-line-small-2 : tie.Need-mul-line-small-2 Inv-loop μ-loop
 mul-line-small-2 c =
     search needs
 
--- src/lib.rt:675:34
 shared-slice-read-line-small-2 : tie.Need-shared-slice-read-line-small-2 Inv-loop μ-loop
 shared-slice-read-line-small-2 c =
     search needs
 
--- src/lib.rt:675:47
 mul-line-small-3 : tie.Need-mul-line-small-3 Inv-loop μ-loop
 mul-line-small-3 c =
     search needs
 
--- src/lib.rt:675:47
 shared-slice-read-line-small-3 : tie.Need-shared-slice-read-line-small-3 Inv-loop μ-loop
 shared-slice-read-line-small-3 c =
     search needs
 
--- src/lib.rt:675:13
 line-small-requires : tie.Need-line-small-requires Inv-loop μ-loop
 line-small-requires c κs =
     search needs
 
--- src/lib.rt:676:13
 returns : tie.Need-returns Inv-loop μ-loop
 returns c =
     let h : c .before .before .before .before .before .before .loop .i < length (linesOf (c .before .before .before .before .before .before .before .before .before .before .before .args .items .now) (c .before .before .before .before .before .before .before .before .before .before .before .args .supplies .now) (c .before .before .before .before .before .before .before .before .before .before .before .args .quantities .now)) = omega (arith, c .before .before .before .before .before .loop-test .taken, c .before .before .before .before .before .before .loop .inv .1 .0) in
     small-stop _ _ _ _ h (c .before .before .before .before .before .before .loop .inv .1 .1 .1 .1 .1) (c .before .line-small .ensures) (c .if1 .taken)
 
--- src/lib.rt:678:9
 add-i : tie.Need-add-i Inv-loop μ-loop
 add-i c =
     search needs
 
--- src/lib.rt:674:5
 loop-less : tie.Need-loop-less Inv-loop μ-loop
 loop-less c =
     search needs
 
--- src/lib.rt:674:5
 loop-again : tie.Need-loop-again Inv-loop μ-loop
 loop-again c =
     let h : c .before .before .before .before .before .before .loop .i < length (linesOf (c .before .before .before .before .before .before .before .before .before .before .before .args .items .now) (c .before .before .before .before .before .before .before .before .before .before .before .args .supplies .now) (c .before .before .before .before .before .before .before .before .before .before .before .args .quantities .now)) = omega (arith, c .before .before .before .before .before .loop-test .taken, c .before .before .before .before .before .before .loop .inv .1 .0) in
     (search needs, (search needs, (search needs, (search needs, (search needs, small-again _ _ _ _ h (c .before .before .before .before .before .before .loop .inv .1 .1 .1 .1 .1) (c .before .line-small .ensures) (c .if1 .left))))))
 
--- src/lib.rt:669:1
 returns-2 : tie.Need-returns-2 Inv-loop μ-loop
 returns-2 c =
     let h : length (linesOf (c .before .before .before .before .before .before .args .items .now) (c .before .before .before .before .before .before .args .supplies .now) (c .before .before .before .before .before .before .args .quantities .now)) ≤ c .before .loop .i = omega (arith, c .loop-test .left, c .before .loop .inv .1 .0) in

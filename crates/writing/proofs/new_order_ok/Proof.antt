@@ -1,6 +1,5 @@
 use borrow.Author.Needs.{needs}
 use Rattle.model.specs.RequestLine.{hasForm}
-use borrow.Author.Needs.{needs}
 use Rattle.writing.proofs.new_order_ok.Statement.{statement}
 use Rattle.writing.proofs.new_order_ok.Tie as tie
 use Rattle.writing.proofs.new_order_ok.Reads as reads
@@ -9,31 +8,24 @@ use Rattle.writing.proofs.count.Reads as count-reads
 use Rattle.writing.proofs.lines_small.Reads as lines-small-reads
 use Rattle.writing.proofs.small.Reads as small-reads
 
--- src/lib.rt:847:9
 count-requires : tie.Need-count-requires
 count-requires c κs = search needs
 
--- src/lib.rt:848:5
 small-requires : tie.Need-small-requires
 small-requires c κs = search needs
 
--- src/lib.rt:849:11
 small-requires-2 : tie.Need-small-requires-2
 small-requires-2 c κs = search needs
 
--- src/lib.rt:850:11
 small-requires-3 : tie.Need-small-requires-3
 small-requires-3 c κs = search needs
 
--- src/lib.rt:851:11
 small-requires-4 : tie.Need-small-requires-4
 small-requires-4 c κs = search needs
 
--- src/lib.rt:854:11
 lines-small-requires : tie.Need-lines-small-requires
 lines-small-requires c κs = search needs
 
--- src/lib.rt:844:1
 returns : tie.Need-returns
 unfolding hasForm
 returns c =

@@ -1,6 +1,5 @@
 use borrow.Author.Needs.{needs}
 use Rattle.model.specs.RequestLine.{hasForm}
-use borrow.Author.Needs.{needs}
 use Rattle.writing.proofs.order_status_ok.Statement.{statement}
 use Rattle.writing.proofs.order_status_ok.Tie as tie
 use Rattle.writing.proofs.order_status_ok.Reads as reads
@@ -8,19 +7,15 @@ use Rattle.writing.proofs.order_status_ok.Lts as lts
 use Rattle.writing.proofs.small.Reads as small-reads
 use Rattle.writing.proofs.who_ok.Reads as who-ok-reads
 
--- src/lib.rt:827:5
 small-requires : tie.Need-small-requires
 small-requires c κs = search needs
 
--- src/lib.rt:827:26
 small-requires-2 : tie.Need-small-requires-2
 small-requires-2 c κs = search needs
 
--- src/lib.rt:827:46
 who-ok-requires : tie.Need-who-ok-requires
 who-ok-requires c κs = search needs
 
--- src/lib.rt:824:1
 returns : tie.Need-returns
 unfolding hasForm
 returns c =

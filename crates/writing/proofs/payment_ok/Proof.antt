@@ -1,6 +1,5 @@
 use borrow.Author.Needs.{needs}
 use Rattle.model.specs.RequestLine.{hasForm}
-use borrow.Author.Needs.{needs}
 use Rattle.writing.proofs.payment_ok.Statement.{statement}
 use Rattle.writing.proofs.payment_ok.Tie as tie
 use Rattle.writing.proofs.payment_ok.Reads as reads
@@ -8,35 +7,27 @@ use Rattle.writing.proofs.payment_ok.Lts as lts
 use Rattle.writing.proofs.small.Reads as small-reads
 use Rattle.writing.proofs.who_ok.Reads as who-ok-reads
 
--- src/lib.rt:834:5
 small-requires : tie.Need-small-requires
 small-requires c κs = search needs
 
--- src/lib.rt:835:11
 small-requires-2 : tie.Need-small-requires-2
 small-requires-2 c κs = search needs
 
--- src/lib.rt:836:11
 small-requires-3 : tie.Need-small-requires-3
 small-requires-3 c κs = search needs
 
--- src/lib.rt:837:11
 small-requires-4 : tie.Need-small-requires-4
 small-requires-4 c κs = search needs
 
--- src/lib.rt:838:11
 who-ok-requires : tie.Need-who-ok-requires
 who-ok-requires c κs = search needs
 
--- src/lib.rt:839:11
 small-requires-5 : tie.Need-small-requires-5
 small-requires-5 c κs = search needs
 
--- src/lib.rt:840:11
 small-requires-6 : tie.Need-small-requires-6
 small-requires-6 c κs = search needs
 
--- src/lib.rt:831:1
 returns : tie.Need-returns
 unfolding hasForm
 returns c =

@@ -3,45 +3,38 @@ use mathlib.Core.Path.{_∙_}
 use native.Mathlib.Omega.{arith}
 use Prim.Native.Nat.{_+_}
 use lib.ListN.{set, length-set}
-use Rattle.writing.proofs.Putting.{small, dec-most, put-marked}
-use borrow.Author.Needs.{needs}
+use Rattle.model.proofs.DecimalLaws.{dec-most}
+use Rattle.text.proofs.Putting.{marked-field}
 use Rattle.writing.proofs.put_hash.Statement.{statement}
 use Rattle.writing.proofs.put_hash.Tie as tie
 use Rattle.writing.proofs.put_hash.Reads as reads
 use Rattle.writing.proofs.put_hash.Lts as lts
-use Rattle.writing.proofs.put_number.Reads as put-number-reads
+use Rattle.text.proofs.put_digits.Reads as put-digits-reads
 
--- src/lib.rt:615:5
 slice-write-line : tie.Need-slice-write-line
 slice-write-line c = search needs
 
--- src/lib.rt:616:10
 add-line : tie.Need-add-line
 add-line c = search needs
 
--- src/lib.rt:616:5
 slice-write-line-2 : tie.Need-slice-write-line-2
 slice-write-line-2 c =
-    simp length-set (omega (arith, c .before .pre .1))
+    simp length-set (omega (arith, (c .before .pre)))
 
--- src/lib.rt:617:22
-add-put-number : tie.Need-add-put-number
-add-put-number c = search needs
+add-put-digits : tie.Need-add-put-digits
+add-put-digits c = search needs
 
--- src/lib.rt:617:5
-put-number-requires : tie.Need-put-number-requires
-put-number-requires c κs =
-    (small _ (c .before .before .pre .0), simp length-set (omega (arith, c .before .before .pre .1, dec-most (c .before .before .args .c) (small (c .before .before .args .c) (c .before .before .pre .0)))))
+put-digits-requires : tie.Need-put-digits-requires
+put-digits-requires c κs =
+    simp length-set (omega (arith, (c .before .before .pre), dec-most (c .before .before .args .c)))
 
--- src/lib.rt:611:1
 same-length : tie.Need-same-length
 same-length c =
-    c .before .before .put-number .kept .0 ∙ length-set (set (c .before .before .before .before .before .args .line .now) (c .before .before .before .before .before .args .at) 9) (c .before .before .before .before .before .args .at + 1) 35 ∙ length-set (c .before .before .before .before .before .args .line .now) (c .before .before .before .before .before .args .at) 9
+    c .before .before .put-digits .kept .0 ∙ length-set (set (c .before .before .before .before .before .args .line .now) (c .before .before .before .before .before .args .at) 9) (c .before .before .before .before .before .args .at + 1) 35 ∙ length-set (c .before .before .before .before .before .args .line .now) (c .before .before .before .before .before .args .at) 9
 
--- src/lib.rt:611:1
 returns : tie.Need-returns
 returns c =
-    (rw (c .before .before .put-number .ensures .1, c .before .before .put-number .ensures .0) (put-marked _ _ _ _ (omega (arith, c .before .before .before .before .before .pre .1, dec-most (c .before .before .before .before .before .args .c) (small (c .before .before .before .before .before .args .c) (c .before .before .before .before .before .pre .0))))), omega (arith, c .before .before .put-number .ensures .0, dec-most (c .before .before .before .before .before .args .c) (small (c .before .before .before .before .before .args .c) (c .before .before .before .before .before .pre .0))))
+    (marked-field _ _ _ _ _ _ (c .before .before .put-digits .ensures), omega (arith, c .before .before .put-digits .ensures .place, dec-most (c .before .before .before .before .before .args .c)))
 
 pub put-hash-spec : {M : Type 1} → statement M
 put-hash-spec =
@@ -50,7 +43,7 @@ put-hash-spec =
     slice-write-line
     add-line
     slice-write-line-2
-    add-put-number
-    put-number-requires
+    add-put-digits
+    put-digits-requires
     same-length
     returns)

@@ -1,59 +1,47 @@
 use borrow.Author.Needs.{needs}
-use mathlib.Core.Path.{refl, _∙_}
+use mathlib.Core.Path.{_∙_}
 use native.Mathlib.Omega.{arith}
 use lib.ListN.{length-set}
-use Rattle.model.specs.RequestLine.{fieldsOf}
-use Rattle.model.specs.Request.{linesOf}
-use Rattle.writing.proofs.Putting.{small-order, put-then, whole-of}
-use borrow.Author.Needs.{needs}
+use Rattle.model.specs.RequestLine.{fieldsOf, lineOf}
+use Rattle.text.proofs.Putting.{fields-then, whole-line}
 use Rattle.writing.proofs.put_new_order.Statement.{statement}
 use Rattle.writing.proofs.put_new_order.Tie as tie
 use Rattle.writing.proofs.put_new_order.Reads as reads
 use Rattle.writing.proofs.put_new_order.Lts as lts
 use Rattle.writing.proofs.put_lines.Reads as put-lines-reads
-use Rattle.writing.proofs.put_two.Reads as put-two-reads
+use Rattle.text.proofs.put_two.Reads as put-two-reads
 
--- src/lib.rt:763:5
 slice-write-line : tie.Need-slice-write-line
 slice-write-line c = search needs
 
--- src/lib.rt:764:9
 put-two-requires : tie.Need-put-two-requires
 put-two-requires c κs =
-    let s = small-order (c .before .before .before .before .before .args .q) (linesOf (c .before .before .before .before .before .args .items .now) (c .before .before .before .before .before .args .supplies .now) (c .before .before .before .before .before .args .quantities .now)) (c .before .before .before .before .before .pre .0) in (s .warehouse, (s .district, simp length-set (omega (arith, c .before .before .before .before .before .pre .1))))
+    simp length-set (omega (arith, c .before .before .before .before .before .pre .1))
 
--- src/lib.rt:765:9
 put-two-requires-2 : tie.Need-put-two-requires-2
 put-two-requires-2 c κs =
-    let s = small-order (c .before .before .before .before .before .before .before .before .before .args .q) (linesOf (c .before .before .before .before .before .before .before .before .before .args .items .now) (c .before .before .before .before .before .before .before .before .before .args .supplies .now) (c .before .before .before .before .before .before .before .before .before .args .quantities .now)) (c .before .before .before .before .before .before .before .before .before .pre .0) in (s .customer, (s .date, omega (arith, c .before .before .before .before .before .before .before .before .before .pre .1, c .before .before .before .put-two .ensures .1, c .before .before .before .put-two .kept .0, length-set (c .before .before .before .before .before .before .before .before .before .args .line .now) 0 78)))
+    omega (arith, c .before .before .before .before .before .before .before .before .before .pre .1, c .before .before .before .put-two .ensures .1, c .before .before .before .put-two .kept .0, length-set (c .before .before .before .before .before .before .before .before .before .args .line .now) 0 78)
 
--- src/lib.rt:766:9
 put-lines-requires : tie.Need-put-lines-requires
 put-lines-requires c κs =
-    let s = small-order (c .before .before .before .before .before .before .before .before .before .before .before .before .before .args .q) (linesOf (c .before .before .before .before .before .before .before .before .before .before .before .before .before .args .items .now) (c .before .before .before .before .before .before .before .before .before .before .before .before .before .args .supplies .now) (c .before .before .before .before .before .before .before .before .before .before .before .before .before .args .quantities .now)) (c .before .before .before .before .before .before .before .before .before .before .before .before .before .pre .0) in (s .each, omega (arith, c .before .before .before .before .before .before .before .before .before .before .before .before .before .pre .1, s .few, c .before .before .before .before .before .before .before .put-two .ensures .1, c .before .before .before .before .before .before .before .put-two .kept .0, c .before .before .before .put-two2 .ensures .1, c .before .before .before .put-two2 .kept .0, length-set (c .before .before .before .before .before .before .before .before .before .before .before .before .before .args .line .now) 0 78))
+    omega (arith, (c .before .before .before .before .before .before .before .before .before .before .before .before .before .pre), c .before .before .before .before .before .before .before .put-two .ensures .1, c .before .before .before .before .before .before .before .put-two .kept .0, c .before .before .before .put-two2 .ensures .1, c .before .before .before .put-two2 .kept .0, length-set (c .before .before .before .before .before .before .before .before .before .before .before .before .before .args .line .now) 0 78)
 
--- src/lib.rt:767:5
 slice-write-line-2 : tie.Need-slice-write-line-2
 slice-write-line-2 c =
-    let s = small-order (c .before .before .before .before .before .before .before .before .before .before .before .before .before .before .before .before .args .q) (linesOf (c .before .before .before .before .before .before .before .before .before .before .before .before .before .before .before .before .args .items .now) (c .before .before .before .before .before .before .before .before .before .before .before .before .before .before .before .before .args .supplies .now) (c .before .before .before .before .before .before .before .before .before .before .before .before .before .before .before .before .args .quantities .now)) (c .before .before .before .before .before .before .before .before .before .before .before .before .before .before .before .before .pre .0) in omega (arith, c .before .before .before .before .before .before .before .before .before .before .before .before .before .before .before .before .pre .1, s .few, c .before .before .before .before .before .before .before .before .before .before .put-two .ensures .1, c .before .before .before .before .before .before .before .before .before .before .put-two .kept .0, c .before .before .before .before .before .before .put-two2 .ensures .1, c .before .before .before .before .before .before .put-two2 .kept .0, c .before .before .put-lines .ensures .1, c .before .before .put-lines .kept .0, length-set (c .before .before .before .before .before .before .before .before .before .before .before .before .before .before .before .before .args .line .now) 0 78)
+    omega (arith, (c .before .before .before .before .before .before .before .before .before .before .before .before .before .before .before .before .pre), c .before .before .before .before .before .before .before .before .before .before .put-two .ensures .1, c .before .before .before .before .before .before .before .before .before .before .put-two .kept .0, c .before .before .before .before .before .before .put-two2 .ensures .1, c .before .before .before .before .before .before .put-two2 .kept .0, c .before .before .put-lines .ensures .1, c .before .before .put-lines .kept .0, length-set (c .before .before .before .before .before .before .before .before .before .before .before .before .before .before .before .before .args .line .now) 0 78)
 
--- src/lib.rt:768:5
 add-result : tie.Need-add-result
 add-result c =
-    let s = small-order (c .before .before .before .before .before .before .before .before .before .before .before .before .before .before .before .before .args .q) (linesOf (c .before .before .before .before .before .before .before .before .before .before .before .before .before .before .before .before .args .items .now) (c .before .before .before .before .before .before .before .before .before .before .before .before .before .before .before .before .args .supplies .now) (c .before .before .before .before .before .before .before .before .before .before .before .before .before .before .before .before .args .quantities .now)) (c .before .before .before .before .before .before .before .before .before .before .before .before .before .before .before .before .pre .0) in omega (arith, s .few, c .before .before .before .before .before .before .before .before .before .before .put-two .ensures .1, c .before .before .before .before .before .before .before .before .before .before .put-two .kept .0, c .before .before .before .before .before .before .put-two2 .ensures .1, c .before .before .before .before .before .before .put-two2 .kept .0, c .before .before .put-lines .ensures .1, c .before .before .put-lines .kept .0)
+    omega (arith, c .before .before .before .before .before .before .before .before .before .before .before .before .before .before .before .before .pre .0, c .before .before .before .before .before .before .before .before .before .before .put-two .ensures .1, c .before .before .before .before .before .before .put-two2 .ensures .1, c .before .before .put-lines .ensures .1)
 
--- src/lib.rt:753:1
 same-length : tie.Need-same-length
 same-length c =
     simp length-set (c .before .before .put-lines .kept .0 ∙ c .before .before .before .before .before .before .put-two2 .kept .0 ∙ c .before .before .before .before .before .before .before .before .before .before .put-two .kept .0 ∙ length-set (c .before .before .before .before .before .before .before .before .before .before .before .before .before .before .before .before .args .line .now) 0 78)
 
--- src/lib.rt:753:1
 returns : tie.Need-returns
-unfolding fieldsOf
+unfolding fieldsOf lineOf
 returns c =
-    let s = small-order (c .before .before .before .before .before .before .before .before .before .before .before .before .before .before .before .before .args .q) (linesOf (c .before .before .before .before .before .before .before .before .before .before .before .before .before .before .before .before .args .items .now) (c .before .before .before .before .before .before .before .before .before .before .before .before .before .before .before .before .args .supplies .now) (c .before .before .before .before .before .before .before .before .before .before .before .before .before .before .before .before .args .quantities .now)) (c .before .before .before .before .before .before .before .before .before .before .before .before .before .before .before .before .pre .0) in whole-of (c .before .before .before .before .before .before .before .before .before .before .before .before .before .before .before .before .args .line .now) _ _ 78 _ (c .before .before .before .before .before .before .before .before .before .before .before .before .before .before .before .before .pre .1) refl
-    (put-then _ _ _ _ _ _ _ _ (put-then _ _ _ _ _ _ _ _ (c .before .before .before .before .before .before .before .before .before .before .put-two .ensures .0) (c .before .before .before .before .before .before .put-two2 .ensures .0)) (c .before .before .put-lines .ensures .0))
-    (c .before .before .put-lines .kept .0 ∙ c .before .before .before .before .before .before .put-two2 .kept .0 ∙ c .before .before .before .before .before .before .before .before .before .before .put-two .kept .0) (omega (arith, s .few, c .before .before .before .before .before .before .before .before .before .before .put-two .ensures .1, c .before .before .before .before .before .before .put-two2 .ensures .1, c .before .before .put-lines .ensures .1))
+    (whole-line _ _ _ _ _ (fields-then _ _ _ _ _ _ _ _ (fields-then _ _ _ _ _ _ _ _ (c .before .before .before .before .before .before .before .before .before .before .put-two .ensures .0) (c .before .before .before .before .before .before .put-two2 .ensures .0)) (c .before .before .put-lines .ensures .0)), omega (arith, c .before .before .before .before .before .before .before .before .before .before .before .before .before .before .before .before .pre .0, c .before .before .before .before .before .before .before .before .before .before .put-two .ensures .1, c .before .before .before .before .before .before .put-two2 .ensures .1, c .before .before .put-lines .ensures .1))
 
 pub put-new-order-spec : {M : Type 1} → statement M
 put-new-order-spec =

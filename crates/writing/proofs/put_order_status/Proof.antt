@@ -1,50 +1,42 @@
 use borrow.Author.Needs.{needs}
-use mathlib.Core.Path.{refl, _∙_}
+use mathlib.Core.Path.{_∙_}
 use native.Mathlib.Omega.{arith}
 use lib.ListN.{length-set}
-use Rattle.model.specs.RequestLine.{fieldsOf}
-use Rattle.writing.proofs.Putting.{small-status, put-then, whole-of}
-use borrow.Author.Needs.{needs}
+use Rattle.model.specs.RequestLine.{fieldsOf, lineOf}
+use Rattle.text.proofs.Putting.{fields-then, whole-line}
 use Rattle.writing.proofs.put_order_status.Statement.{statement}
 use Rattle.writing.proofs.put_order_status.Tie as tie
 use Rattle.writing.proofs.put_order_status.Reads as reads
 use Rattle.writing.proofs.put_order_status.Lts as lts
-use Rattle.writing.proofs.put_two.Reads as put-two-reads
+use Rattle.text.proofs.put_two.Reads as put-two-reads
 use Rattle.writing.proofs.put_who.Reads as put-who-reads
 
--- src/lib.rt:731:5
 slice-write-line : tie.Need-slice-write-line
 slice-write-line c = search needs
 
--- src/lib.rt:732:9
 put-two-requires : tie.Need-put-two-requires
 put-two-requires c κs =
-    let s = small-status (c .before .before .before .args .q) _ (c .before .before .before .pre .0) in (s .warehouse, (s .district, simp length-set (omega (arith, c .before .before .before .pre .1))))
+    simp length-set (omega (arith, c .before .before .before .pre .1))
 
--- src/lib.rt:733:9
 put-who-requires : tie.Need-put-who-requires
 put-who-requires c κs =
-    let s = small-status (c .before .before .before .before .before .before .before .args .q) _ (c .before .before .before .before .before .before .before .pre .0) in (s .named, omega (arith, c .before .before .before .before .before .before .before .pre .1, c .before .before .before .put-two .ensures .1, c .before .before .before .put-two .kept .0, length-set (c .before .before .before .before .before .before .before .args .line .now) 0 83))
+    (c .before .before .before .before .before .before .before .pre .0, omega (arith, c .before .before .before .before .before .before .before .pre .1, c .before .before .before .put-two .ensures .1, c .before .before .before .put-two .kept .0, length-set (c .before .before .before .before .before .before .before .args .line .now) 0 83))
 
--- src/lib.rt:734:5
 slice-write-line-2 : tie.Need-slice-write-line-2
 slice-write-line-2 c =
     omega (arith, c .before .before .before .before .before .before .before .before .before .before .pre .1, c .before .before .before .before .before .before .put-two .ensures .1, c .before .before .before .before .before .before .put-two .kept .0, c .before .before .put-who .ensures .1, c .before .before .put-who .kept .0, length-set (c .before .before .before .before .before .before .before .before .before .before .args .line .now) 0 83)
 
--- src/lib.rt:735:5
 add-result : tie.Need-add-result
 add-result c = search needs
 
--- src/lib.rt:727:1
 same-length : tie.Need-same-length
 same-length c =
     simp length-set (c .before .before .put-who .kept .0 ∙ c .before .before .before .before .before .before .put-two .kept .0 ∙ length-set (c .before .before .before .before .before .before .before .before .before .before .args .line .now) 0 83)
 
--- src/lib.rt:727:1
 returns : tie.Need-returns
-unfolding fieldsOf
+unfolding fieldsOf lineOf
 returns c =
-    whole-of (c .before .before .before .before .before .before .before .before .before .before .args .line .now) _ _ 83 _ (c .before .before .before .before .before .before .before .before .before .before .pre .1) refl (put-then _ _ _ _ _ _ _ _ (c .before .before .before .before .before .before .put-two .ensures .0) (c .before .before .put-who .ensures .0)) (c .before .before .put-who .kept .0 ∙ c .before .before .before .before .before .before .put-two .kept .0) (omega (arith, c .before .before .before .before .before .before .put-two .ensures .1, c .before .before .put-who .ensures .1))
+    (whole-line _ _ _ _ _ (fields-then _ _ _ _ _ _ _ _ (c .before .before .before .before .before .before .put-two .ensures .0) (c .before .before .put-who .ensures .0)), omega (arith, c .before .before .before .before .before .before .put-two .ensures .1, c .before .before .put-who .ensures .1))
 
 pub put-order-status-spec : {M : Type 1} → statement M
 put-order-status-spec =

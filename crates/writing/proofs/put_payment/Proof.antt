@@ -1,62 +1,50 @@
 use borrow.Author.Needs.{needs}
-use mathlib.Core.Path.{refl, _∙_}
+use mathlib.Core.Path.{_∙_}
 use native.Mathlib.Omega.{arith}
 use lib.ListN.{length-set}
-use Rattle.model.specs.RequestLine.{fieldsOf}
-use Rattle.writing.proofs.Putting.{small-payment, put-then, whole-of}
-use borrow.Author.Needs.{needs}
+use Rattle.model.specs.RequestLine.{fieldsOf, lineOf}
+use Rattle.text.proofs.Putting.{fields-then, whole-line}
 use Rattle.writing.proofs.put_payment.Statement.{statement}
 use Rattle.writing.proofs.put_payment.Tie as tie
 use Rattle.writing.proofs.put_payment.Reads as reads
 use Rattle.writing.proofs.put_payment.Lts as lts
-use Rattle.writing.proofs.put_two.Reads as put-two-reads
+use Rattle.text.proofs.put_two.Reads as put-two-reads
 use Rattle.writing.proofs.put_who.Reads as put-who-reads
 
--- src/lib.rt:743:5
 slice-write-line : tie.Need-slice-write-line
 slice-write-line c = search needs
 
--- src/lib.rt:744:9
 put-two-requires : tie.Need-put-two-requires
 put-two-requires c κs =
-    let s = small-payment (c .before .before .before .args .q) _ (c .before .before .before .pre .0) in (s .warehouse, (s .district, simp length-set (omega (arith, c .before .before .before .pre .1))))
+    simp length-set (omega (arith, c .before .before .before .pre .1))
 
--- src/lib.rt:745:9
 put-two-requires-2 : tie.Need-put-two-requires-2
 put-two-requires-2 c κs =
-    let s = small-payment (c .before .before .before .before .before .before .before .args .q) _ (c .before .before .before .before .before .before .before .pre .0) in (s .custwarehouse, (s .custdistrict, omega (arith, c .before .before .before .before .before .before .before .pre .1, c .before .before .before .put-two .ensures .1, c .before .before .before .put-two .kept .0, length-set (c .before .before .before .before .before .before .before .args .line .now) 0 80)))
+    omega (arith, c .before .before .before .before .before .before .before .pre .1, c .before .before .before .put-two .ensures .1, c .before .before .before .put-two .kept .0, length-set (c .before .before .before .before .before .before .before .args .line .now) 0 80)
 
--- src/lib.rt:746:9
 put-who-requires : tie.Need-put-who-requires
 put-who-requires c κs =
-    let s = small-payment (c .before .before .before .before .before .before .before .before .before .before .before .args .q) _ (c .before .before .before .before .before .before .before .before .before .before .before .pre .0) in (s .named, omega (arith, c .before .before .before .before .before .before .before .before .before .before .before .pre .1, c .before .before .before .before .before .before .before .put-two .ensures .1, c .before .before .before .before .before .before .before .put-two .kept .0, c .before .before .before .put-two2 .ensures .1, c .before .before .before .put-two2 .kept .0, length-set (c .before .before .before .before .before .before .before .before .before .before .before .args .line .now) 0 80))
+    (c .before .before .before .before .before .before .before .before .before .before .before .pre .0, omega (arith, c .before .before .before .before .before .before .before .before .before .before .before .pre .1, c .before .before .before .before .before .before .before .put-two .ensures .1, c .before .before .before .before .before .before .before .put-two .kept .0, c .before .before .before .put-two2 .ensures .1, c .before .before .before .put-two2 .kept .0, length-set (c .before .before .before .before .before .before .before .before .before .before .before .args .line .now) 0 80))
 
--- src/lib.rt:747:9
 put-two-requires-3 : tie.Need-put-two-requires-3
 put-two-requires-3 c κs =
-    let s = small-payment (c .before .before .before .before .before .before .before .before .before .before .before .before .before .before .before .args .q) _ (c .before .before .before .before .before .before .before .before .before .before .before .before .before .before .before .pre .0) in (s .date, (s .amount, omega (arith, c .before .before .before .before .before .before .before .before .before .before .before .before .before .before .before .pre .1, c .before .before .before .before .before .before .before .before .before .before .before .put-two .ensures .1, c .before .before .before .before .before .before .before .before .before .before .before .put-two .kept .0, c .before .before .before .before .before .before .before .put-two2 .ensures .1, c .before .before .before .before .before .before .before .put-two2 .kept .0, c .before .before .before .put-who .ensures .1, c .before .before .before .put-who .kept .0, length-set (c .before .before .before .before .before .before .before .before .before .before .before .before .before .before .before .args .line .now) 0 80)))
+    omega (arith, c .before .before .before .before .before .before .before .before .before .before .before .before .before .before .before .pre .1, c .before .before .before .before .before .before .before .before .before .before .before .put-two .ensures .1, c .before .before .before .before .before .before .before .before .before .before .before .put-two .kept .0, c .before .before .before .before .before .before .before .put-two2 .ensures .1, c .before .before .before .before .before .before .before .put-two2 .kept .0, c .before .before .before .put-who .ensures .1, c .before .before .before .put-who .kept .0, length-set (c .before .before .before .before .before .before .before .before .before .before .before .before .before .before .before .args .line .now) 0 80)
 
--- src/lib.rt:748:5
 slice-write-line-2 : tie.Need-slice-write-line-2
 slice-write-line-2 c =
     omega (arith, c .before .before .before .before .before .before .before .before .before .before .before .before .before .before .before .before .before .before .pre .1, c .before .before .before .before .before .before .before .before .before .before .before .before .before .before .put-two .ensures .1, c .before .before .before .before .before .before .before .before .before .before .before .before .before .before .put-two .kept .0, c .before .before .before .before .before .before .before .before .before .before .put-two2 .ensures .1, c .before .before .before .before .before .before .before .before .before .before .put-two2 .kept .0, c .before .before .before .before .before .before .put-who .ensures .1, c .before .before .before .before .before .before .put-who .kept .0, c .before .before .put-two3 .ensures .1, c .before .before .put-two3 .kept .0, length-set (c .before .before .before .before .before .before .before .before .before .before .before .before .before .before .before .before .before .before .args .line .now) 0 80)
 
--- src/lib.rt:749:5
 add-result : tie.Need-add-result
 add-result c = search needs
 
--- src/lib.rt:739:1
 same-length : tie.Need-same-length
 same-length c =
     simp length-set (c .before .before .put-two3 .kept .0 ∙ c .before .before .before .before .before .before .put-who .kept .0 ∙ c .before .before .before .before .before .before .before .before .before .before .put-two2 .kept .0 ∙ c .before .before .before .before .before .before .before .before .before .before .before .before .before .before .put-two .kept .0 ∙ length-set (c .before .before .before .before .before .before .before .before .before .before .before .before .before .before .before .before .before .before .args .line .now) 0 80)
 
--- src/lib.rt:739:1
 returns : tie.Need-returns
-unfolding fieldsOf
+unfolding fieldsOf lineOf
 returns c =
-    whole-of (c .before .before .before .before .before .before .before .before .before .before .before .before .before .before .before .before .before .before .args .line .now) _ _ 80 _ (c .before .before .before .before .before .before .before .before .before .before .before .before .before .before .before .before .before .before .pre .1) refl
-    (put-then _ _ _ _ _ _ _ _ (put-then _ _ _ _ _ _ _ _ (put-then _ _ _ _ _ _ _ _ (c .before .before .before .before .before .before .before .before .before .before .before .before .before .before .put-two .ensures .0) (c .before .before .before .before .before .before .before .before .before .before .put-two2 .ensures .0)) (c .before .before .before .before .before .before .put-who .ensures .0)) (c .before .before .put-two3 .ensures .0))
-    (c .before .before .put-two3 .kept .0 ∙ c .before .before .before .before .before .before .put-who .kept .0 ∙ c .before .before .before .before .before .before .before .before .before .before .put-two2 .kept .0 ∙ c .before .before .before .before .before .before .before .before .before .before .before .before .before .before .put-two .kept .0) (omega (arith, c .before .before .before .before .before .before .before .before .before .before .before .before .before .before .put-two .ensures .1, c .before .before .before .before .before .before .before .before .before .before .put-two2 .ensures .1, c .before .before .before .before .before .before .put-who .ensures .1, c .before .before .put-two3 .ensures .1))
+    (whole-line _ _ _ _ _ (fields-then _ _ _ _ _ _ _ _ (fields-then _ _ _ _ _ _ _ _ (fields-then _ _ _ _ _ _ _ _ (c .before .before .before .before .before .before .before .before .before .before .before .before .before .before .put-two .ensures .0) (c .before .before .before .before .before .before .before .before .before .before .put-two2 .ensures .0)) (c .before .before .before .before .before .before .put-who .ensures .0)) (c .before .before .put-two3 .ensures .0)), omega (arith, c .before .before .before .before .before .before .before .before .before .before .before .before .before .before .put-two .ensures .1, c .before .before .before .before .before .before .before .before .before .before .put-two2 .ensures .1, c .before .before .before .before .before .before .put-who .ensures .1, c .before .before .put-two3 .ensures .1))
 
 pub put-payment-spec : {M : Type 1} → statement M
 put-payment-spec =

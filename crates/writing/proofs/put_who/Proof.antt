@@ -4,7 +4,6 @@ use mathlib.Core.Bool.{true}
 use Rattle.model.specs.declared.Selection.{Selection}
 use Rattle.model.specs.Names.{whoOf}
 use Rattle.model.specs.RequestLine.{hasWho}
-use borrow.Author.Needs.{needs}
 use Rattle.writing.proofs.put_who.Statement.{statement}
 use Rattle.writing.proofs.put_who.Tie as tie
 use Rattle.writing.proofs.put_who.Reads as reads
@@ -12,38 +11,30 @@ use Rattle.writing.proofs.put_who.Lts as lts
 use Rattle.writing.proofs.put_hash.Reads as put-hash-reads
 use Rattle.writing.proofs.put_name.Reads as put-name-reads
 
--- src/lib.rt:638:27
 enum-known-who : tie.Need-enum-known-who
 enum-known-who c = search needs
 
--- src/lib.rt:638:33
 put-hash-requires : tie.Need-put-hash-requires
 put-hash-requires c κs =
-    (subst (λ (w : Selection). hasWho (whoOf w (c .before .before .before .before .before .before .args .name .now)) ≡ true) (c .before .before .who .given .1) (c .before .before .before .before .before .before .pre .0), c .before .before .before .before .before .before .pre .1)
+    c .before .before .before .before .before .before .pre .1
 
--- src/lib.rt:639:41
 enum-told : tie.Need-enum-told
 enum-told c = search needs
 
--- src/lib.rt:639:32
 put-name-requires : tie.Need-put-name-requires
 put-name-requires c κs =
     (subst (λ (w : Selection). hasWho (whoOf w (c .before .before .before .before .before .args .name .now)) ≡ true) (c .before .enum-told .given .1) (c .before .before .before .before .before .pre .0), c .before .before .before .before .before .pre .1)
 
--- src/lib.rt:633:1
 same-length : tie.Need-same-length
 same-length c = search needs
 
--- src/lib.rt:633:1
 returns : tie.Need-returns
 returns c =
     rw (c .before .before .before .before .before .who .given .1) (c .before .before .put-hash .ensures)
 
--- src/lib.rt:633:1
 same-length-2 : tie.Need-same-length-2
 same-length-2 c = search needs
 
--- src/lib.rt:633:1
 returns-2 : tie.Need-returns-2
 returns-2 c =
     rw (c .before .before .before .before .enum-told .given .1) (c .before .before .put-name .ensures)

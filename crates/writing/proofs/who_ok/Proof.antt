@@ -1,5 +1,4 @@
 use borrow.Author.Needs.{needs}
-use borrow.Author.Needs.{needs}
 use Rattle.writing.proofs.who_ok.Statement.{statement}
 use Rattle.writing.proofs.who_ok.Tie as tie
 use Rattle.writing.proofs.who_ok.Reads as reads
@@ -7,28 +6,22 @@ use Rattle.writing.proofs.who_ok.Lts as lts
 use Rattle.lines.proofs.name_ok.Reads as name-ok-reads
 use Rattle.writing.proofs.small.Reads as small-reads
 
--- src/lib.rt:804:27
 enum-known-who : tie.Need-enum-known-who
 enum-known-who c = search needs
 
--- src/lib.rt:804:33
 small-requires : tie.Need-small-requires
 small-requires c κs = search needs
 
--- src/lib.rt:805:32
 enum-told : tie.Need-enum-told
 enum-told c = search needs
 
--- src/lib.rt:805:32
 name-ok-requires : tie.Need-name-ok-requires
 name-ok-requires c κs = search needs
 
--- src/lib.rt:800:1
 returns : tie.Need-returns
 returns c =
     rw (c .before .before .who .given .1) (c .small .ensures)
 
--- src/lib.rt:800:1
 returns-2 : tie.Need-returns-2
 returns-2 c =
     rw (c .before .enum-told .given .1) (c .name-ok .ensures)

@@ -1,7 +1,6 @@
 use borrow.Author.Needs.{needs}
 use mathlib.Core.Path.{sym, _∙_}
-use Rattle.writing.proofs.Putting.{unwritten, too-short-by, written}
-use borrow.Author.Needs.{needs}
+use Rattle.writing.proofs.Putting.{unwritten, too-short, written}
 use Rattle.writing.proofs.write_line.Statement.{statement}
 use Rattle.writing.proofs.write_line.Tie as tie
 use Rattle.writing.proofs.write_line.Reads as reads
@@ -11,50 +10,39 @@ use Rattle.writing.proofs.form_ok.Reads as form-ok-reads
 use Rattle.writing.proofs.not_written.Reads as not-written-reads
 use Rattle.writing.proofs.put_line.Reads as put-line-reads
 
--- src/lib.rt:898:8
 form-ok-requires : tie.Need-form-ok-requires
 form-ok-requires c κs = search needs
 
--- src/lib.rt:900:26
 slice-aggregate-put-line : tie.Need-slice-aggregate-put-line
 slice-aggregate-put-line c = search needs
 
--- src/lib.rt:900:13
 put-line-requires : tie.Need-put-line-requires
 put-line-requires c κs =
     (sym (c .before .before .form-ok .ensures) ∙ c .before .if1 .taken, search needs)
 
--- src/lib.rt:902:13
 not-written-requires : tie.Need-not-written-requires
 not-written-requires c κs = search needs
 
--- src/lib.rt:902:13
 returns : tie.Need-returns
 returns c =
-    rw (c .not-written .ensures) (too-short-by _ _ _ _ (sym (c .before .before .before .before .before .before .form-ok .ensures) ∙ c .before .before .before .before .before .if1 .taken) (c .before .before .before .put-line .ensures) (c .before .if2 .taken))
+    rw (c .not-written .ensures) (too-short _ _ _ _ _ (sym (c .before .before .before .before .before .before .form-ok .ensures) ∙ c .before .before .before .before .before .if1 .taken) (c .before .before .before .put-line .ensures .0) (c .before .if2 .taken))
 
--- src/lib.rt:904:25
 slice-aggregate-copy : tie.Need-slice-aggregate-copy
 slice-aggregate-copy c = search needs
 
--- src/lib.rt:904:9
 copy-requires : tie.Need-copy-requires
 copy-requires c κs = search needs
 
--- src/lib.rt:906:9
 same-length : tie.Need-same-length
 same-length c = search needs
 
--- src/lib.rt:906:9
 returns-2 : tie.Need-returns-2
 returns-2 c =
-    let w = written _ _ _ _ (sym (c .before .before .before .before .before .before .before .before .before .before .form-ok .ensures) ∙ c .before .before .before .before .before .before .before .before .before .if1 .taken) (c .before .before .before .before .before .before .before .put-line .ensures) (c .before .before .before .before .before .if2 .left) in (w .0, c .before .before .copy .ensures ∙ w .1)
+    rw (c .before .before .copy .ensures) (written _ _ _ _ _ (sym (c .before .before .before .before .before .before .before .before .before .before .form-ok .ensures) ∙ c .before .before .before .before .before .before .before .before .before .if1 .taken) (c .before .before .before .before .before .before .before .put-line .ensures .0) (search needs) (c .before .before .before .before .before .if2 .left))
 
--- src/lib.rt:908:5
 not-written-requires-2 : tie.Need-not-written-requires-2
 not-written-requires-2 c κs = search needs
 
--- src/lib.rt:888:1
 returns-3 : tie.Need-returns-3
 returns-3 c =
     rw (c .not-written2 .ensures) (unwritten _ _ (sym (c .before .before .form-ok .ensures) ∙ c .before .if1 .left))

@@ -1,0 +1,66 @@
+-- What the contract of each exported function says: the numbers put out, and what is left of the slices lent to be written; every book and every request,
+-- refused ones included.
+-- Assumes nothing.
+use mathlib.Core.Path.{_≡_}
+use mathlib.Core.List.{List}
+use Prim.Native.Nat.{ℕ, _+_, _≤_}
+use lib.IntN.{ℤ}
+use lib.ListN.{length, getD, take}
+use Rattle.model.specs.declared.Line.{Line}
+use Rattle.model.specs.declared.NewOrder.{NewOrder}
+use Rattle.model.specs.declared.Payment.{Payment}
+use Rattle.model.specs.declared.Delivery.{Delivery}
+use Rattle.model.specs.declared.OrderStatus.{OrderStatus}
+use Rattle.model.specs.declared.StockLevel.{StockLevel}
+use Rattle.model.specs.declared.ReadAnswer.{ReadAnswer}
+use Rattle.model.specs.Names.{Who}
+use Rattle.model.specs.Opening.{openingAnswer}
+use Rattle.model.specs.NewOrder.{newOrderAnswer, newOrderBook}
+use Rattle.model.specs.Payment.{paymentAnswer, paymentBook}
+use Rattle.model.specs.Delivery.{deliveryAnswer, deliveryOrders, deliveryBook}
+use Rattle.model.specs.OrderStatus.{statusAnswer, statusLines}
+use Rattle.model.specs.StockLevel.{stockLevelAnswer}
+use Rattle.model.specs.Request.{Request}
+use Rattle.model.specs.RequestLine.{writeAnswer, writeBuffer}
+use Rattle.capi.specs.Flat.{bareOut, oneOut, twoOut, balanceOut, statusOut, partIn}
+use Rattle.capi.specs.FlatLines.{readOut}
+
+pub record OpeningC (b : List ℤ) (names : List ℕ) (out : List ℕ) : Type 0 where
+  pub answers : out ≡ bareOut (openingAnswer b names)
+
+pub record NewOrderC (b : List ℤ) (names : List ℕ) (q : NewOrder) (lines : List Line) (out : List ℕ) (left : List ℤ) : Type 0 where
+  pub answers : out ≡ twoOut (newOrderAnswer b names q lines)
+  pub leaves : left ≡ newOrderBook b names q lines
+
+pub record PaymentC (b : List ℤ) (names : List ℕ) (q : Payment) (who : Who) (out : List ℕ) (balance left : List ℤ) : Type 0 where
+  pub answers : out ≡ oneOut (paymentAnswer b names q who)
+  pub balances : balance ≡ balanceOut (paymentAnswer b names q who)
+  pub leaves : left ≡ paymentBook b names q who
+
+pub record DeliveryC (b : List ℤ) (names : List ℕ) (q : Delivery) (out orders : List ℕ) (left : List ℤ) : Type 0 where
+  pub answers : out ≡ twoOut (deliveryAnswer b names q)
+  pub numbers : orders ≡ deliveryOrders b names q
+  pub leaves : left ≡ deliveryBook b names q
+
+-- the last two numbers name the part of the book that is shown
+pub record StatusC (b : List ℤ) (names : List ℕ) (q : OrderStatus) (who : Who) (out : List ℕ) (balance : List ℤ) : Type 0 where
+  pub answers : take 6 out ≡ take 6 (statusOut (statusAnswer b names q who) 0 0)
+  pub balances : balance ≡ balanceOut (statusAnswer b names q who)
+  pub within : getD out 6 0 + getD out 7 0 ≤ length b
+  pub shows : partIn out b ≡ statusLines b names q who
+
+pub record StockLevelC (b : List ℤ) (names : List ℕ) (q : StockLevel) (out : List ℕ) : Type 0 where
+  pub answers : out ≡ oneOut (stockLevelAnswer b names q)
+
+-- what reading answers, in numbers, and the arrays beside it
+pub record ReadC (r : ReadAnswer) (out items supplies quantities name : List ℕ) : Type 0 where
+  pub answers : out ≡ readOut (r .outcome) (r .lines .count) (r .name .length)
+  pub items-are : items ≡ r .lines .items
+  pub supplies-are : supplies ≡ r .lines .supplies
+  pub quantities-are : quantities ≡ r .lines .quantities
+  pub name-is : name ≡ r .name .bytes
+
+-- a request's line written to the front of a buffer
+pub record WriteC (buffer : List ℕ) (r : Request) (out left : List ℕ) : Type 0 where
+  pub answers : out ≡ oneOut (writeAnswer buffer r)
+  pub leaves : left ≡ writeBuffer buffer r

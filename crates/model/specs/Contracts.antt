@@ -1,0 +1,53 @@
+-- What each call's contract says: its answer, what stands beside it, and what it leaves of all that is lent to be written; for every book and every
+-- request, refused ones included. What is lent to be read only is left as it is.
+-- Assumes nothing.
+use mathlib.Core.Path.{_≡_}
+use mathlib.Core.List.{List}
+use Prim.Native.Nat.{ℕ}
+use lib.IntN.{ℤ}
+use Rattle.model.specs.declared.Line.{Line}
+use Rattle.model.specs.declared.NewOrder.{NewOrder}
+use Rattle.model.specs.declared.Payment.{Payment}
+use Rattle.model.specs.declared.Delivery.{Delivery}
+use Rattle.model.specs.declared.OrderStatus.{OrderStatus}
+use Rattle.model.specs.declared.StockLevel.{StockLevel}
+use Rattle.model.specs.declared.OpeningAnswer.{OpeningAnswer}
+use Rattle.model.specs.declared.NewOrderAnswer.{NewOrderAnswer}
+use Rattle.model.specs.declared.PaymentAnswer.{PaymentAnswer}
+use Rattle.model.specs.declared.DeliveryAnswer.{DeliveryAnswer}
+use Rattle.model.specs.declared.StatusOutcome.{StatusOutcome}
+use Rattle.model.specs.declared.StockLevelAnswer.{StockLevelAnswer}
+use Rattle.model.specs.Names.{Who}
+use Rattle.model.specs.Answer.{openingSays, newOrderSays, paymentSays, deliverySays, statusSays, stockLevelSays}
+use Rattle.model.specs.Opening.{openingAnswer}
+use Rattle.model.specs.NewOrder.{newOrderAnswer, newOrderBook}
+use Rattle.model.specs.Payment.{paymentAnswer, paymentBook}
+use Rattle.model.specs.Delivery.{deliveryAnswer, deliveryOrders, deliveryBook}
+use Rattle.model.specs.OrderStatus.{statusAnswer, statusLines}
+use Rattle.model.specs.StockLevel.{stockLevelAnswer}
+
+-- "Opening writes nothing."
+pub record OpeningCall (b : List ℤ) (names : List ℕ) (r : OpeningAnswer) : Type 0 where
+  pub says : openingSays (r .outcome) ≡ openingAnswer b names
+
+pub record NewOrderCall (b : List ℤ) (names : List ℕ) (q : NewOrder) (lines : List Line) (r : NewOrderAnswer) (left : List ℤ) : Type 0 where
+  pub says : newOrderSays (r .outcome) ≡ newOrderAnswer b names q lines
+  pub leaves : left ≡ newOrderBook b names q lines
+
+pub record PaymentCall (b : List ℤ) (names : List ℕ) (q : Payment) (who : Who) (r : PaymentAnswer) (left : List ℤ) : Type 0 where
+  pub says : paymentSays (r .outcome) ≡ paymentAnswer b names q who
+  pub leaves : left ≡ paymentBook b names q who
+
+-- "Delivery's ten numbers stand beside it"
+pub record DeliveryCall (b : List ℤ) (names : List ℕ) (q : Delivery) (r : DeliveryAnswer) (left : List ℤ) : Type 0 where
+  pub says : deliverySays (r .outcome) ≡ deliveryAnswer b names q
+  pub orders : r .orders ≡ deliveryOrders b names q
+  pub leaves : left ≡ deliveryBook b names q
+
+-- "its lines are shown as that part of the lent book, not copied"
+pub record StatusCall (b : List ℤ) (names : List ℕ) (q : OrderStatus) (who : Who) (outcome : StatusOutcome) (shown : List ℤ) : Type 0 where
+  pub says : statusSays outcome ≡ statusAnswer b names q who
+  pub shows : shown ≡ statusLines b names q who
+
+pub record StockLevelCall (b : List ℤ) (names : List ℕ) (q : StockLevel) (r : StockLevelAnswer) : Type 0 where
+  pub says : stockLevelSays (r .outcome) ≡ stockLevelAnswer b names q
