@@ -48,7 +48,7 @@ use Rattle.model.specs.declared.StatusOutcome.{StatusOutcome}
 use Rattle.model.specs.Names.{whoOf}
 use Rattle.model.specs.Contracts.{StatusCall}
 use Rattle.order_status.specs.Seen.{ShownCall}
-use Rattle.model.specs.Request.{partOf}
+use Rattle.model.specs.OrderStatus.{partOf, statusLines}
 use Rattle.model.proofs.OrderStatus as Q
 use Rattle.model.proofs.OrderStatus.Laws as Q′
 use Rattle.model.proofs.Selection as E
@@ -221,6 +221,11 @@ module _ {M : Type 1} (𝓤 : URA M) (H : Heap 𝓤) (A : Atoms 𝓤) (W : Given
       move ! (2 ∷ 0 ∷ []) $ fjoin ! $ move ! (1 ∷ 0 ∷ []) $ fjoin ! $ frame ! $
       nothing ! $ move ! (1 ∷ 0 ∷ []) $ fjoin ! $ owned ! O.the-row (Is O.the-row) (EL.makes O.the-type O′.the-plain 𝓤 H A) (r .outcome) _ is $ fjoin ! $ by ! (own-shut 𝓤 H A W (T.the-type α) (T′.the-laws α) (r .outcome, (y, tt)))
 
+  -- the lines are those of the part
+  lines-shown : (r : Shown) (y : RefT (List ℤ)) → Says r → now y ≡ partOf (r .part) (b .now) → now y ≡ statusLines (b .now) (n .now) t (whoOf w (m .now))
+  unfolding statusLines
+  lines-shown r y e e′ = e′ ∙ ap (λ (p : Part). partOf p (b .now)) (e .shows)
+
   -- what the struct's own relation asks
   made-is : (r : Shown) (y : RefT (List ℤ)) → Is O.the-row (r .outcome) (ovals (r .outcome)) → Is (ShrSlice (named 0) κ i64) y (slv y ∷ []) → Is (T.the-row α) (made r y) (tval r y ∷ [])
   made-is r y is is′ = LL.owes (T.the-type α) (T′.the-laws α) (made r y) (is, (is′, tt))
@@ -264,7 +269,7 @@ module _ {M : Type 1} (𝓤 : URA M) (H : Heap 𝓤) (A : Atoms 𝓤) (W : Given
         returns ! (look ! 22 refl) $ forget ! 6 refl $ forget ! 8 refl $ forget ! 10 refl $ forget ! 12 refl $ forget ! 14 refl $ forget ! 16 refl $ forget ! 18 refl $ forget ! 20 refl $ forget ! 22 refl $
         move ! (22 ∷ 23 ∷ []) $ free1 ! $ move ! (20 ∷ 21 ∷ []) $ free1 ! $ move ! (18 ∷ 19 ∷ []) $ free1 ! $ move ! (16 ∷ 17 ∷ []) $ free1 ! $ move ! (14 ∷ 15 ∷ []) $ free1 ! $
         move ! (12 ∷ 13 ∷ []) $ free1 ! $ move ! (10 ∷ 11 ∷ []) $ free1 ! $ move ! (8 ∷ 9 ∷ []) $ free1 ! $ move ! (6 ∷ 7 ∷ []) $ free1 ! $ free0 ! $
-        keep ! (1 ∷ 3 ∷ 2 ∷ 4 ∷ 5 ∷ 0 ∷ []) $ by ! (exits r y (outcome-is r u is) (record { says = e .says; shows = e′ ∙ e .shows }))))))))))))))))))))
+        keep ! (1 ∷ 3 ∷ 2 ∷ 4 ∷ 5 ∷ 0 ∷ []) $ by ! (exits r y (outcome-is r u is) (record { says = e .says; shows = lines-shown r y e e′ }))))))))))))))))))))
 
 module _ {M : Type 1} (𝓤 : URA M) (H : Heap 𝓤) (A : Atoms 𝓤) (W : Given 𝓤 H A) (mem : Memory → SProp 𝓤) (run : Routine → Fun 𝓤) where
   status-walks : (C : Calls 𝓤 H) (Λ : Loops 𝓤 H) → FmC 𝓤 H (W .laws) C → Triple 𝓤 (C #shown) (Finds 𝓤 H A mem run) → Triple 𝓤 (C #lines) (Cuts 𝓤 H A mem run)
