@@ -212,7 +212,7 @@ pub record Figures : Type 0 where
       ∷ prints "S 1 1 #1" "S 0 1 0 21 30 0 4 1 1 100 0"
       ∷ [])
 
--- "Refused, in checking order": each line offends twice or more
+-- "Refused, in checking order": where a line offends twice, the first of the two numbers is answered
 pub record Refusals : Type 0 where
   -- 2 before 3. "every moving field .. is 0 and every next order number 1"
   pub opening : openingAnswer [] [] ∷ openingAnswer (smallOf 1 2 10000 1) (alms 10) ∷ openingAnswer (smallOf 1 0 0 1) (drop 1 (alms 10))
