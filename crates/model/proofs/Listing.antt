@@ -30,7 +30,7 @@ use Rattle.model.specs.Text.{isNumber, valueOf, decimal, tabbed, lineTex
 use Rattle.model.specs.RequestLine.{isName, isWho, whoRead, linesRead, readNewOrder, readPayment, readDelivery, readOrderStatus, readStockLevel, readFields, readLine}
 use Rattle.model.specs.AnswerLine.{answerLine, noFormLine, printedFor, leftAfter}
 
-abbrev times : {A : Type 0} → ℕ → List A → List A
+abbrev pub times : {A : Type 0} → ℕ → List A → List A
 times zero xs = []
 times (suc n) xs = xs ++ times n xs
 
@@ -53,15 +53,15 @@ programNames =
     times 10 ((65 ∷ 76 ∷ 77 ∷ replicate 13 32) ++ (69 ∷ 86 ∷ 65 ∷ replicate 13 32) ++ (65 ∷ 76 ∷ 77 ∷ replicate 13 32) ++ (66 ∷ 79 ∷ replicate 14 32))
 
 -- a line of the paper, in which each space stands for a tab, as bytes
-abbrev bytes : String → List ℕ
+abbrev pub bytes : String → List ℕ
 bytes none = []
 bytes (c then s) = cond (eqb (code c) 32) 9 (code c) ∷ bytes s
 
-abbrev lines : List String → List (List ℕ)
+abbrev pub lines : List String → List (List ℕ)
 lines [] = []
 lines (s ∷ ss) = (bytes s ++ (10 ∷ [])) ∷ lines ss
 
-abbrev answered : Lent → List (List ℕ) → List (List ℕ)
+abbrev pub answered : Lent → List (List ℕ) → List (List ℕ)
 answered s [] = []
 answered s (x ∷ xs) = printedFor s (readLine x) ∷ answered (leftAfter s (readLine x)) xs
 
