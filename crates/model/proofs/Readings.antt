@@ -27,9 +27,9 @@ use Rattle.model.specs.Opening.{newWarehouse, newDistrict, newCustomer, 
 use Rattle.model.specs.NewOrder.{newAsked, priceOf, orderable, newUsed, newOrderFault, restock, newOrderCommit, orderTotal, newOrderTotal, newOrderAnswer, newOrderBook}
 use Rattle.model.specs.Payment.{payAsked, payUsed, paymentFault, payer, paymentCommit, paidBalance, paymentAnswer, paymentBook}
 use Rattle.model.specs.Delivery.{deliveryAsked, deliverable, deliveryUsed, deliveryFault, waits, oldest, lineAmounts, deliverOrder, deliverDistrict, deliverTo, deliveryCommit, oldestTen, deliveryAnswer, deliveryOrders, deliveryBook}
-use Rattle.model.specs.OrderStatus.{statusAsked, statusUsed, statusFault, lastOrder, statusCustomer, statusOrder, orderShown, linesShown, statusAnswer, statusLines}
+use Rattle.model.specs.OrderStatus.{statusAsked, statusUsed, statusFault, lastOrder, statusCustomer, statusOrder, orderShown, linesPart, statusAnswer, statusPart, statusLines}
 use Rattle.model.specs.StockLevel.{windowFirst, windowCount, levelAsked, windowUsed, levelUsed, stockLevelFault, lineItems, windowItems, isLow, lowItems, stockLevelAnswer}
-use Rattle.model.specs.Request.{Request, stockLevel, Lent, lent, answerOf, ordersOf, shownOf, numsAfter}
+use Rattle.model.specs.Request.{Request, stockLevel, Lent, lent, answerOf, ordersOf, shownPart, numsAfter}
 use Rattle.model.specs.Text.{positives, isNumber, valueOf, decimal, tabbed, lineText, partedBy}
 use Rattle.model.specs.RequestLine.{isName, isWho, whoRead, hasForm, fieldsOf, lineOf, linesRead, readNewOrder, readPayment, readDelivery, readOrderStatus, readStockLevel, readFields, readLine, writeFault, writeAnswer, writeBuffer}
 use Rattle.model.specs.AnswerLine.{answerLine, noFormLine, printedFor, leftAfter}
@@ -313,6 +313,11 @@ pub record Beside : Type 0 where
   pub part-shown : map (λ t. statusLines (set (left opened everyone twoOrders) 10 (pos t)) everyone (record { warehouse = 1; district = 1 }) (byNumber 2))
       (10000 ∷ 9999 ∷ [])
       ≡ [] ∷ positives (1 ∷ 1 ∷ 2 ∷ 200 ∷ 0 ∷ 2 ∷ 2 ∷ 5 ∷ 1250 ∷ 0 ∷ []) ∷ []
+  -- "line count times five, starting in the order slot": refused; order 2, behind 337 numbers and one slot of 81, from its column 6; no order
+  pub part-place : map (λ x. statusPart (set (left opened everyone twoOrders) 10 (pos x)) everyone (record { warehouse = 1; district = 1 }) (byNumber 2))
+      (10000 ∷ 9999 ∷ [])
+      ≡ record { from = 0; count = 0 } ∷ record { from = 424; count = 10 } ∷ []
+  pub no-place : statusPart opened everyone (record { warehouse = 1; district = 1 }) (byNumber 2) ≡ record { from = 0; count = 0 }
   -- "A line refused by 1 prints ?, 1, 0." "at most ten digits, no leading zero but "0" itself" "a name of 1 to 16 bytes" "1 to 15 times"
   pub no-form : Refuses opened everyone (
       prints "" "? 1 0"
@@ -383,10 +388,10 @@ pub record Readings : Type 0 where
   pub limits : Limits
 
 pub readings : Readings
-unfolding allTo nat cell balanceOk numbers nameBytes inside place get remap op upTo sumOf lowest largest warehouseTests districtTests customerTests itemTests stockTests slot orderTests lineTests orderOk dims dimsTests sizeTests headOk namePlace lastName firstName nameOk padded compareNames named before namesakes found customerOf warehouseUsed districtUsed customerUsed itemUsed stockUsed orderUsed customersUsed namesUsed ordersUsed whoUsed lineUsed newAsked priceOf orderable newUsed newOrderFault restock newOrderCommit orderTotal newOrderTotal newOrderAnswer newOrderBook payAsked payUsed paymentFault payer paymentCommit paidBalance paymentAnswer paymentBook deliveryAsked deliverable deliveryUsed deliveryFault waits oldest lineAmounts deliverOrder deliverDistrict deliverTo deliveryCommit oldestTen deliveryAnswer deliveryBook statusAsked statusUsed statusFault lastOrder statusCustomer statusOrder orderShown linesShown statusAnswer statusLines windowFirst windowCount levelAsked windowUsed levelUsed stockLevelFault lineItems windowItems isLow lowItems stockLevelAnswer answerOf numsAfter deliveryOrders ones ordersOf shownOf decimal tabbed lineText answerLine noFormLine printedFor leftAfter isNumber valueOf isName isWho whoRead partedBy linesRead readNewOrder readPayment readDelivery readOrderStatus readStockLevel readFields readLine newWarehouse newDistrict newCustomer newStock districtNew warehouseNew bookNew openingFault openingAnswer hasForm fieldsOf lineOf writeFault writeAnswer writeBuffer
+unfolding allTo nat cell balanceOk numbers nameBytes inside place get remap op upTo sumOf lowest largest warehouseTests districtTests customerTests itemTests stockTests slot orderTests lineTests orderOk dims dimsTests sizeTests headOk namePlace lastName firstName nameOk padded compareNames named before namesakes found customerOf warehouseUsed districtUsed customerUsed itemUsed stockUsed orderUsed customersUsed namesUsed ordersUsed whoUsed lineUsed newAsked priceOf orderable newUsed newOrderFault restock newOrderCommit orderTotal newOrderTotal newOrderAnswer newOrderBook payAsked payUsed paymentFault payer paymentCommit paidBalance paymentAnswer paymentBook deliveryAsked deliverable deliveryUsed deliveryFault waits oldest lineAmounts deliverOrder deliverDistrict deliverTo deliveryCommit oldestTen deliveryAnswer deliveryBook statusAsked statusUsed statusFault lastOrder statusCustomer statusOrder orderShown linesPart statusAnswer statusPart statusLines windowFirst windowCount levelAsked windowUsed levelUsed stockLevelFault lineItems windowItems isLow lowItems stockLevelAnswer answerOf numsAfter deliveryOrders ones ordersOf shownPart decimal tabbed lineText answerLine noFormLine printedFor leftAfter isNumber valueOf isName isWho whoRead partedBy linesRead readNewOrder readPayment readDelivery readOrderStatus readStockLevel readFields readLine newWarehouse newDistrict newCustomer newStock districtNew warehouseNew bookNew openingFault openingAnswer hasForm fieldsOf lineOf writeFault writeAnswer writeBuffer
 readings = record {
   figures = record { fraction = refl; once = refl; found-by-name = refl; printed = refl; rows = refl; mark = refl; window = refl };
   refusals = record { opening = refl; head = (refl, refl); new-order = (refl, refl); new-order-rows = (refl, refl); new-order-full = (refl, refl); new-order-last = (refl, refl); line-count = refl; payment = (refl, refl); payment-rows = (refl, refl); payment-home = refl; delivery = (refl, refl); order-status = (refl, refl); stock-level = (refl, refl); no-name = refl; no-name-row = refl };
-  beside = record { ten-numbers = refl; part-shown = refl; no-form = (refl, refl); unended = refl; writing = refl; buffer = refl };
+  beside = record { ten-numbers = refl; part-shown = refl; part-place = refl; no-place = refl; no-form = (refl, refl); unended = refl; writing = refl; buffer = refl };
   limits = record { passed = refl; head = refl; warehouse = refl; district = refl; customer = refl; item = refl; stock = refl; order = refl; line = refl; lines-in-use = refl; names = refl; new-warehouse = refl; new-district = refl; new-customer = refl; new-stock = refl };
 }
