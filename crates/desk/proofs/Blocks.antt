@@ -1,6 +1,6 @@
--- Input in blocks: two blocks in turn are cut as one, and lines leave what the requests that they hold leave.
+-- Input in blocks: two blocks in turn are cut as one, and lines leave what the requests that they hold leave; so all input is answered.
 -- Assumes nothing.
-use mathlib.Core.Path.{_≡_, refl, sym, ap, _∙_}
+use mathlib.Core.Path.{_≡_, refl, sym, ap, _∙_, subst}
 use mathlib.Core.Bool.{Bool, true, false, cond}
 use mathlib.Core.List.{List, [], _∷_, _++_}
 use Prim.Native.Nat.{ℕ, suc, _+_, _-_, _≤_, _<_}
@@ -16,7 +16,8 @@ use Rattle.model.specs.RequestLine.{Reading, read, noForm, readLine}
 use Rattle.model.specs.AnswerLine.{leftAfter}
 use Rattle.model.specs.Tally.{afterAll}
 use Rattle.desk.specs.Step.{Stepped}
-use Rattle.desk.specs.Input.{kept, linesIn, lineAfter, leftBy, withRequest, requestsIn, between, Started, CutOff, FedIn}
+use Rattle.desk.specs.Input.{kept, linesIn, lineAfter, leftBy, withRequest, requestsIn, between, Started, CutOff, FedIn, Served}
+use Rattle.desk.proofs.Overlong.{unended, line-no-ten}
 
 -- ── two blocks in turn ──
 pub lines-append : (xs ys p : List ℕ) → linesIn p (xs ++ ys) ≡ linesIn p xs ++ linesIn (lineAfter p xs) ys
@@ -134,18 +135,27 @@ all-taken p block at line n i u h =
     record { short = u .short; place = u .place; onward = omega (arith, u .onward); lines = u .lines; rest = u .rest; whole = λ e. omega (arith, u .place) }
 
 -- ── a line ──
--- all that is lent after a line, from its parts
-left-parts : (b b' : List ℤ) (names : List ℕ) (x : Reading) → b' ≡ leftAfter (lent b names) x .nums → lent b' names ≡ leftAfter (lent b names) x
-unfolding leftAfter
-left-parts b b' names (read r) e = ap (λ (k : List ℤ). lent k names) e
-left-parts b b' names noForm e = ap (λ (k : List ℤ). lent k names) e
+-- lines leave the names as they are: all that is lent after them, from its parts
+left-names : (s : Lent) (ls : List (List ℕ)) → leftBy s ls .names ≡ s .names
+unfolding leftBy leftAfter
+left-names s [] = refl
+left-names s (l ∷ ls) = left-names (leftAfter s (readLine l)) ls ∙ go (readLine l)
+  where
+    go : (x : Reading) → leftAfter s x .names ≡ s .names
+    go (read r) = refl
+    go noForm = refl
+
+left-parts : (b b' : List ℤ) (names : List ℕ) (ls : List (List ℕ)) → b' ≡ leftBy (lent b names) ls .nums → lent b' names ≡ leftBy (lent b names) ls
+left-parts b b' names ls e =
+    ap (λ (k : List ℤ). lent k names) e ∙ ap (λ (k : List ℕ). lent (leftBy (lent b names) ls .nums) k) (sym (left-names (lent b names) ls))
 
 pub left-line : (b b' : List ℤ) (names line old new : List ℕ) (len n : ℕ) → length old ≡ 2048 → Stepped (lent b names) (take (len - 0) line) old new n (lent b' names)
     → lent b' names ≡ leftAfter (lent b names) (readLine (take len line))
+unfolding leftBy
 left-line b b' names line old new len n h w =
     let e : len - 0 ≡ len = omega arith in
     let r : leb 2048 (length old) ≡ true = le-leb 2048 (length old) (omega arith) in
-    left-parts b b' names (readLine (take len line)) (rw (r, e) at (w .nums))
+    left-parts b b' names (take len line ∷ []) (rw (r, e) at (w .nums))
 
 -- a block up to a place between two cuts: the lines that it ends there are answered
 pub record FedUpTo (s₀ : Lent) (p block : List ℕ) (s : Lent) (line : List ℕ) (n at : ℕ) : Type 0 where
@@ -186,3 +196,42 @@ module _ (s₀ : Lent) (p block : List ℕ) (s : Lent) (line line' : List ℕ) (
 pub closed-fed : (s₀ : Lent) (p block : List ℕ) (s : Lent) (line : List ℕ) (n at : ℕ) → FedUpTo s₀ p block s line n at → FedIn s₀ p block line n at false s
 closed-fed s₀ p block s line n at u =
     record { short = u .short; place = u .place; whole = λ e. not-so (sym e); rest = sym (u .rest); nums = ap (λ (k : Lent). k .nums) (sym (u .left)) }
+
+-- ── all input ──
+-- the input so far: the lines that it ends are answered, and the rest is the line so far
+pub record ServedUpTo (s₀ s : Lent) (line : List ℕ) (len : ℕ) : Type 0 where
+  pub room : length line ≡ 1024
+  pub short : len ≤ 1024
+  pub input : List ℕ
+  pub rest : lineAfter [] input ≡ take len line
+  pub left : leftBy s₀ (linesIn [] input) ≡ s
+
+pub none-served : (s : Lent) (line : List ℕ) → length line ≡ 1024 → ServedUpTo s s line 0
+unfolding linesIn lineAfter leftBy
+none-served s line h = record { room = h; short = omega arith; input = []; rest = refl; left = refl }
+
+-- a block more, or as much of it as was used
+pub block-served : (s₀ : Lent) (b b' : List ℤ) (names line line' block : List ℕ) (len len' used : ℕ) (going : Bool)
+    → ServedUpTo s₀ (lent b names) line len → FedIn (lent b names) (take len line) block line' len' used going (lent b' names) → length line' ≡ 1024
+    → ServedUpTo s₀ (lent b' names) line' len'
+block-served s₀ b b' names line line' block len len' used going u f room =
+    let more = take used block in
+    record {
+      room = room;
+      short = f .short;
+      input = u .input ++ more;
+      rest = rw (line-append (u .input) more [], u .rest) (sym (f .rest));
+      left = rw (lines-append (u .input) more [], left-append s₀ (linesIn [] (u .input)) (linesIn (lineAfter [] (u .input)) more), u .left, u .rest) (sym (left-parts b b' names (linesIn (take len line) more) (f .nums)));
+    }
+
+module _ (s₀ s : Lent) (line : List ℕ) (len : ℕ) (u : ServedUpTo s₀ s line len) where
+  pub input-served : Served s₀ s
+  input-served = record { input = u .input; nums = ap (λ (k : Lent). k .nums) (sym (u .left) ∙ left-requests s₀ (linesIn [] (u .input))) }
+
+  -- a last line without its end has no form: it leaves all as it is
+  pub last-served : (left : Lent) → left ≡ leftAfter s (readLine (take len line)) → Served s₀ left
+  unfolding leftAfter
+  last-served left e =
+      let r : readLine (take len line) ≡ noForm = rw (← u .rest) (unended (lineAfter [] (u .input)) (line-no-ten (u .input) [] refl)) in
+      let k : left ≡ s = rw r at e in
+      subst (Served s₀) (sym k) input-served

@@ -1,4 +1,4 @@
--- Input in blocks: the lines that bytes end, the line that is not yet ended, and what the lines leave.
+-- Input in blocks: the lines that bytes end, the line that is not yet ended, and what the lines leave; input as a whole.
 -- Assumes nothing.
 use mathlib.Core.Path.{_≡_}
 use mathlib.Core.Bool.{Bool, true, false, cond}
@@ -9,6 +9,7 @@ use lib.ListN.{length, take, drop}
 use Rattle.model.specs.Request.{Request, Lent}
 use Rattle.model.specs.RequestLine.{Reading, read, noForm, readLine}
 use Rattle.model.specs.AnswerLine.{leftAfter}
+use Rattle.model.specs.Tally.{afterAll}
 
 -- a line so far and one byte more: the first 1,024 bytes are kept
 abbrev pub kept : List ℕ → ℕ → List ℕ
@@ -38,6 +39,10 @@ unfoldable pub requestsIn : List (List ℕ) → List Request
 requestsIn [] = []
 requestsIn (l ∷ ls) = withRequest (readLine l) (requestsIn ls)
 
+-- the requests that bytes of input hold; a last line without its end holds none
+abbrev pub heldIn : List ℕ → List Request
+heldIn input = requestsIn (linesIn [] input)
+
 -- the bytes of a block from one place up to another
 abbrev pub between : List ℕ → ℕ → ℕ → List ℕ
 between block at next = take (next - at) (drop at block)
@@ -64,3 +69,8 @@ pub record FedIn (s : Lent) (p block line : List ℕ) (len used : ℕ) (going : 
   pub whole : going ≡ true → used ≡ length block
   pub rest : take len line ≡ lineAfter p (take used block)
   pub nums : left .nums ≡ leftBy s (linesIn p (take used block)) .nums
+
+-- what is lent after is what the requests of some input leave of what is lent before; that it is standard input no contract can say
+pub record Served (s left : Lent) : Type 0 where
+  pub input : List ℕ
+  pub nums : left .nums ≡ afterAll s (heldIn input) .nums

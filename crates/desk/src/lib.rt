@@ -6,7 +6,7 @@ ghost use lib.ListN.{length, take, replicate};
 ghost use Rattle.model.specs.Request.{lent};
 ghost use Rattle.model.proofs.Listing.{programBook, programNames};
 ghost use Rattle.desk.specs.Step.{Stepped, Ran};
-ghost use Rattle.desk.specs.Input.{kept, Started, CutOff, FedIn};
+ghost use Rattle.desk.specs.Input.{kept, Started, CutOff, FedIn, Served};
 ghost use Rattle.desk.specs.Filling.{headTo, districtsTo, pricesTo, stocksTo, twoNames};
 use libc::STDIN_FILENO;
 use libc::STDOUT_FILENO;
@@ -222,7 +222,9 @@ fn feed(b: &mut [i64], names: &[u8], line: &mut [u8], len: usize, block: &[u8]) 
 }
 
 // Standard input answered line by line, until it ends or the output is closed; a last line without its end is answered too.
-fn serve(b: &mut [i64], names: &[u8]) {
+fn serve(b: &mut [i64], names: &[u8])
+    ensures { λ _. ⌜ Served (lent (now (b .entry)) (now (names .entry))) (lent (now (b .exit)) (now (names .entry))) ⌝ }
+{
     let mut block = [0u8; 4096];
     let mut line = [0u8; 1024];
     let mut len: usize = 0;
