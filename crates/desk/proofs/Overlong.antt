@@ -19,7 +19,8 @@ use Rattle.model.specs.AnswerLine.{leftAfter}
 use Rattle.model.proofs.TestLaws.{every-each, and-left, and-right}
 use Rattle.model.proofs.DecimalLaws.{number-written, all-append}
 use Rattle.model.proofs.LineLaws.{written-read}
-use Rattle.desk.specs.Input.{kept, linesIn, lineAfter, leftBy}
+use Rattle.blocks.specs.Cutting.{kept, linesIn, lineAfter}
+use Rattle.desk.specs.Input.{leftBy}
 
 -- ── the length of a request's line ──
 abbrev short : List ℕ → Bool

@@ -1,12 +1,12 @@
 use lib.ListN.{length, take}
-use Rattle.desk.proofs.Blocks.{Unended, byte-ends, byte-goes, none-taken, all-taken}
+use Rattle.blocks.proofs.Bytes.{Unended, byte-ends, byte-goes, none-taken, all-taken}
 use Prim.Native.Nat.{_-_}
 use borrow.Author.Needs.{needs}
-use Rattle.desk.proofs.cut.Statement.{statement}
-use Rattle.desk.proofs.cut.Tie as tie
-use Rattle.desk.proofs.cut.Reads as reads
-use Rattle.desk.proofs.cut.Lts as lts
-use Rattle.desk.proofs.keep.Reads as keep-reads
+use Rattle.blocks.proofs.cut.Statement.{statement}
+use Rattle.blocks.proofs.cut.Tie as tie
+use Rattle.blocks.proofs.cut.Reads as reads
+use Rattle.blocks.proofs.cut.Lts as lts
+use Rattle.blocks.proofs.keep.Reads as keep-reads
 
 abbrev Inv-loop : tie.InvT-loop
 Inv-loop line₀ len block at n₀ i₀ line n i = Unended (take len line₀) block at line n i

@@ -1,10 +1,10 @@
-use Rattle.desk.proofs.Blocks.{kept-more, kept-full}
+use Rattle.blocks.proofs.Bytes.{kept-more, kept-full}
 use native.Mathlib.Omega.{arith}
 use borrow.Author.Needs.{needs}
-use Rattle.desk.proofs.keep.Statement.{statement}
-use Rattle.desk.proofs.keep.Tie as tie
-use Rattle.desk.proofs.keep.Reads as reads
-use Rattle.desk.proofs.keep.Lts as lts
+use Rattle.blocks.proofs.keep.Statement.{statement}
+use Rattle.blocks.proofs.keep.Tie as tie
+use Rattle.blocks.proofs.keep.Reads as reads
+use Rattle.blocks.proofs.keep.Lts as lts
 
 slice-write-line : tie.Need-slice-write-line
 slice-write-line c = search needs
