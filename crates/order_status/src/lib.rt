@@ -271,7 +271,7 @@ pub fn status_shown(b: &[i64], names: &[u8], q: OrderStatus, who: Selection, nam
 // The part of the lent book that a status shows.
 fn lines_in<'a>(b: &'a [i64], part: Part) -> &'a [i64]
     requires { ⌜ part .from + part .count ≤ length (now b) ⌝ }
-    ensures { λ r. ⌜ now r ≡ partOf part (now (b .entry)) ⌝ }
+    ensures { λ r. ⌜ (now r ≡ partOf part (now (b .entry))) × (r .ptr ≡ (b .entry .ptr .0, b .entry .ptr .1 + 8 * part .from)) ⌝ }
 {
     let end = part.from + part.count;
     let start = part.from;
@@ -288,7 +288,8 @@ pub fn order_status<'a>(
     who: Selection,
     name: &[u8],
 ) -> StatusAnswer<'a>
-    ensures { λ r. ⌜ StatusCall (now (b .entry)) (now (names .entry)) q (whoOf who (now (name .entry))) (r .outcome) (now (r .lines)) ⌝ }
+    ensures { λ r. ⌜ StatusCall (now (b .entry)) (now (names .entry)) q (whoOf who (now (name .entry)))
+        (r .outcome) (now (r .lines)) (b .entry .ptr) (r .lines .ptr) ⌝ }
 {
     let s = status_shown(b, names, q, who, name);
     let lines = lines_in(b, s.part);
