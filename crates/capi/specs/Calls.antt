@@ -5,7 +5,7 @@ use mathlib.Core.Path.{_≡_}
 use mathlib.Core.List.{List}
 use Prim.Native.Nat.{ℕ, _+_, _≤_}
 use lib.IntN.{ℤ}
-use lib.ListN.{length, getD, take}
+use lib.ListN.{length, getD}
 use Rattle.model.specs.declared.Line.{Line}
 use Rattle.model.specs.declared.NewOrder.{NewOrder}
 use Rattle.model.specs.declared.Payment.{Payment}
@@ -18,12 +18,12 @@ use Rattle.model.specs.Opening.{openingAnswer}
 use Rattle.model.specs.NewOrder.{newOrderAnswer, newOrderBook}
 use Rattle.model.specs.Payment.{paymentAnswer, paymentBook}
 use Rattle.model.specs.Delivery.{deliveryAnswer, deliveryOrders, deliveryBook}
-use Rattle.model.specs.OrderStatus.{statusAnswer, statusLines}
+use Rattle.model.specs.OrderStatus.{statusAnswer, statusPart}
 use Rattle.model.specs.StockLevel.{stockLevelAnswer}
 use Rattle.model.specs.Request.{Request}
 use Rattle.model.specs.RequestLine.{writeAnswer, writeBuffer}
-use Rattle.capi.specs.Flat.{bareOut, oneOut, twoOut, balanceOut, statusOut, partIn}
-use Rattle.capi.specs.FlatLines.{readOut}
+use Rattle.flat.specs.Flat.{bareOut, oneOut, twoOut, balanceOut, statusOut}
+use Rattle.flat.specs.FlatLines.{readOut}
 
 pub record OpeningC (b : List ℤ) (names : List ℕ) (out : List ℕ) : Type 0 where
   pub answers : out ≡ bareOut (openingAnswer b names)
@@ -42,12 +42,11 @@ pub record DeliveryC (b : List ℤ) (names : List ℕ) (q : Delivery) (out order
   pub numbers : orders ≡ deliveryOrders b names q
   pub leaves : left ≡ deliveryBook b names q
 
--- the last two numbers name the part of the book that is shown
+-- the last two numbers name the part of the book that is shown, which lies in the book
 pub record StatusC (b : List ℤ) (names : List ℕ) (q : OrderStatus) (who : Who) (out : List ℕ) (balance : List ℤ) : Type 0 where
-  pub answers : take 6 out ≡ take 6 (statusOut (statusAnswer b names q who) 0 0)
+  pub answers : out ≡ statusOut (statusAnswer b names q who) (statusPart b names q who)
   pub balances : balance ≡ balanceOut (statusAnswer b names q who)
   pub within : getD out 6 0 + getD out 7 0 ≤ length b
-  pub shows : partIn out b ≡ statusLines b names q who
 
 pub record StockLevelC (b : List ℤ) (names : List ℕ) (q : StockLevel) (out : List ℕ) : Type 0 where
   pub answers : out ≡ oneOut (stockLevelAnswer b names q)

@@ -1,4 +1,2 @@
 -- What the contracts of the crate cite beside the model.
 pub mod Calls
-pub mod Flat
-pub mod FlatLines

@@ -1,43 +1,25 @@
--- Input in blocks: two blocks in turn are cut as one, and lines leave what the requests that they hold leave.
+-- Input in blocks: lines leave what the requests that they hold leave; so all input is answered.
 -- Assumes nothing.
-use mathlib.Core.Path.{_≡_, refl, sym, ap, _∙_}
+use mathlib.Core.Path.{_≡_, refl, sym, ap, _∙_, subst}
 use mathlib.Core.Bool.{Bool, true, false, cond}
 use mathlib.Core.List.{List, [], _∷_, _++_}
-use Prim.Native.Nat.{ℕ, suc, _+_, _-_, _≤_, _<_}
-use native.Mathlib.Numerals.{add-one}
+use Prim.Native.Nat.{ℕ, _-_, _≤_}
 use native.Mathlib.Omega.{arith}
-use lib.Dec.{leb, eqb}
+use lib.Dec.{leb}
 use lib.IntN.{ℤ}
-use lib.ListN.{length, getD, take, drop, set, length-drop}
-use lib.Seq.{length-take-le, take-suc, take-add, getD-drop, take-suc-set}
-use borrow.Author.Tests.{le-leb, lt-ltb, le-ltb, eq-eqb, ne-eqb}
+use lib.ListN.{length, take}
+use borrow.Author.Tests.{le-leb}
 use Rattle.model.specs.Request.{Lent, lent}
 use Rattle.model.specs.RequestLine.{Reading, read, noForm, readLine}
 use Rattle.model.specs.AnswerLine.{leftAfter}
 use Rattle.model.specs.Tally.{afterAll}
+use Rattle.blocks.specs.Cutting.{linesIn, lineAfter, between, Started, CutOff}
+use Rattle.blocks.proofs.Bytes.{lines-append, line-append, split-between, not-so}
 use Rattle.desk.specs.Step.{Stepped}
-use Rattle.desk.specs.Input.{kept, linesIn, lineAfter, leftBy, withRequest, requestsIn, between, Started, CutOff, FedIn}
+use Rattle.desk.specs.Input.{leftBy, withRequest, requestsIn, FedIn, Served}
+use Rattle.desk.proofs.Overlong.{unended, line-no-ten}
 
--- ── two blocks in turn ──
-pub lines-append : (xs ys p : List ℕ) → linesIn p (xs ++ ys) ≡ linesIn p xs ++ linesIn (lineAfter p xs) ys
-unfolding linesIn lineAfter
-lines-append [] ys p = refl
-lines-append (x ∷ xs) ys p = rw (lines-append xs ys [], lines-append xs ys (kept p x)) (go (eqb x 10))
-  where
-    go : (t : Bool) → cond t (kept p x ∷ linesIn [] xs ++ linesIn (lineAfter [] xs) ys) (linesIn (kept p x) xs ++ linesIn (lineAfter (kept p x) xs) ys)
-        ≡ cond t (kept p x ∷ linesIn [] xs) (linesIn (kept p x) xs) ++ linesIn (cond t (lineAfter [] xs) (lineAfter (kept p x) xs)) ys
-    go true = refl
-    go false = refl
-
-pub line-append : (xs ys p : List ℕ) → lineAfter p (xs ++ ys) ≡ lineAfter (lineAfter p xs) ys
-unfolding lineAfter
-line-append [] ys p = refl
-line-append (x ∷ xs) ys p = rw (line-append xs ys [], line-append xs ys (kept p x)) (go (eqb x 10))
-  where
-    go : (t : Bool) → cond t (lineAfter (lineAfter [] xs) ys) (lineAfter (lineAfter (kept p x) xs) ys) ≡ lineAfter (cond t (lineAfter [] xs) (lineAfter (kept p x) xs)) ys
-    go true = refl
-    go false = refl
-
+-- ── lines in turn ──
 pub left-append : (s : Lent) (ls ms : List (List ℕ)) → leftBy s (ls ++ ms) ≡ leftBy (leftBy s ls) ms
 unfolding leftBy
 left-append s [] ms = refl
@@ -53,99 +35,28 @@ left-requests s (l ∷ ls) = left-requests (leftAfter s (readLine l)) ls ∙ go 
     go (read r) = refl
     go noForm = refl
 
--- ── a byte ──
--- a byte kept, and one dropped
-pub kept-more : (line : List ℕ) (n x : ℕ) → n < 1024 → length line ≡ 1024 → take (n + 1) (set line n x) ≡ kept (take n line) x
-kept-more line n x h e =
-    let l : length (take n line) ≡ n = length-take-le n line (omega arith) in
-    rw (l, lt-ltb n 1024 h) (ap (λ (k : ℕ). take k (set line n x)) (add-one n) ∙ take-suc-set line n x (omega arith))
-
-pub kept-full : (line : List ℕ) (n x : ℕ) → 1024 ≤ n → n ≤ 1024 → length line ≡ 1024 → take n line ≡ kept (take n line) x
-kept-full line n x h k e =
-    let l : length (take n line) ≡ n = length-take-le n line (omega arith) in
-    rw (l, le-ltb n 1024 h)
-
-split-between : (block : List ℕ) (at next : ℕ) → at ≤ next → take next block ≡ take at block ++ between block at next
-split-between block at next h =
-    let e : at + (next - at) ≡ next = omega arith in
-    ap (λ (k : ℕ). take k block) (sym e) ∙ take-add at (next - at) block
-
--- no line is ended by the bytes taken so far
-pub record Unended (p block : List ℕ) (at : ℕ) (line : List ℕ) (n i : ℕ) : Type 0 where
-  pub room : length line ≡ 1024
-  pub short : n ≤ 1024
-  pub onward : at ≤ i
-  pub place : i ≤ length block
-  pub lines : linesIn p (between block at i) ≡ []
-  pub rest : lineAfter p (between block at i) ≡ take n line
-
-between-suc : (block : List ℕ) (at i : ℕ) → at ≤ i → i < length block → between block at (i + 1) ≡ between block at i ++ (getD block i 0 ∷ [])
-between-suc block at i h k =
-    let e : i + 1 - at ≡ suc (i - at) = omega arith in
-    let f : at + (i - at) ≡ i = omega arith in
-    rw (e, take-suc (drop at block) (i - at) 0 (simp length-drop (omega arith)), getD-drop at block (i - at) 0, f)
-
-not-so : {A : Type 0} → true ≡ false → A
-not-so e = absurd (let q : _≡_ {A = ℕ} 0 1 = cc in omega arith)
-
-module _ (p block : List ℕ) (at : ℕ) (line line' : List ℕ) (n n' i : ℕ) (u : Unended p block at line n i) (h : i < length block)
-    (k : take n' line' ≡ kept (take n line) (getD block i 0)) (short : n' ≤ 1024) where
-  byte-lines : linesIn p (between block at (i + 1)) ≡ cond (eqb (getD block i 0) 10) (take n' line' ∷ []) []
-  unfolding linesIn
-  byte-lines = rw (between-suc block at i (u .onward) h, lines-append (between block at i) (getD block i 0 ∷ []) p, u .lines, u .rest, k)
-
-  byte-rest : lineAfter p (between block at (i + 1)) ≡ cond (eqb (getD block i 0) 10) [] (take n' line')
-  unfolding lineAfter
-  byte-rest = rw (between-suc block at i (u .onward) h, line-append (between block at i) (getD block i 0 ∷ []) p, u .rest, k)
-
-  pub byte-ends : getD block i 0 ≡ 10 → CutOff p block at line' n' (i + 1) true
-  byte-ends e =
-      let t : eqb (getD block i 0) 10 ≡ true = eq-eqb (getD block i 0) 10 e in
-      record {
-        short = short;
-        place = omega arith;
-        onward = omega (arith, u .onward);
-        lines = byte-lines ∙ rw t;
-        rest = byte-rest ∙ rw t;
-        whole = not-so;
-      }
-
-  pub byte-goes : (getD block i 0 ≡ 10 → ⊥) → length line' ≡ 1024 → Unended p block at line' n' (i + 1)
-  byte-goes e room =
-      let t : eqb (getD block i 0) 10 ≡ false = ne-eqb (getD block i 0) 10 e in
-      record {
-        room = room;
-        short = short;
-        onward = omega (arith, u .onward);
-        place = omega arith;
-        lines = byte-lines ∙ rw t;
-        rest = byte-rest ∙ rw t;
-      }
-
--- before a byte, and at the block's end
-pub none-taken : (line : List ℕ) (len : ℕ) (block : List ℕ) (at : ℕ) → Started line len block at → Unended (take len line) block at line len at
-unfolding linesIn lineAfter
-none-taken line len block at o =
-    let e : at - at ≡ 0 = omega arith in
-    record { room = o .room; short = o .short; onward = omega arith; place = o .place; lines = rw e; rest = rw e }
-
-pub all-taken : (p block : List ℕ) (at : ℕ) (line : List ℕ) (n i : ℕ) → Unended p block at line n i → length block ≤ i → CutOff p block at line n i false
-all-taken p block at line n i u h =
-    record { short = u .short; place = u .place; onward = omega (arith, u .onward); lines = u .lines; rest = u .rest; whole = λ e. omega (arith, u .place) }
-
 -- ── a line ──
--- all that is lent after a line, from its parts
-left-parts : (b b' : List ℤ) (names : List ℕ) (x : Reading) → b' ≡ leftAfter (lent b names) x .nums → lent b' names ≡ leftAfter (lent b names) x
-unfolding leftAfter
-left-parts b b' names (read r) e = ap (λ (k : List ℤ). lent k names) e
-left-parts b b' names noForm e = ap (λ (k : List ℤ). lent k names) e
+-- lines leave the names as they are: all that is lent after them, from its parts
+left-names : (s : Lent) (ls : List (List ℕ)) → leftBy s ls .names ≡ s .names
+unfolding leftBy leftAfter
+left-names s [] = refl
+left-names s (l ∷ ls) = left-names (leftAfter s (readLine l)) ls ∙ go (readLine l)
+  where
+    go : (x : Reading) → leftAfter s x .names ≡ s .names
+    go (read r) = refl
+    go noForm = refl
+
+left-parts : (b b' : List ℤ) (names : List ℕ) (ls : List (List ℕ)) → b' ≡ leftBy (lent b names) ls .nums → lent b' names ≡ leftBy (lent b names) ls
+left-parts b b' names ls e =
+    ap (λ (k : List ℤ). lent k names) e ∙ ap (λ (k : List ℕ). lent (leftBy (lent b names) ls .nums) k) (sym (left-names (lent b names) ls))
 
 pub left-line : (b b' : List ℤ) (names line old new : List ℕ) (len n : ℕ) → length old ≡ 2048 → Stepped (lent b names) (take (len - 0) line) old new n (lent b' names)
     → lent b' names ≡ leftAfter (lent b names) (readLine (take len line))
+unfolding leftBy
 left-line b b' names line old new len n h w =
     let e : len - 0 ≡ len = omega arith in
     let r : leb 2048 (length old) ≡ true = le-leb 2048 (length old) (omega arith) in
-    left-parts b b' names (readLine (take len line)) (rw (r, e) at (w .nums))
+    left-parts b b' names (take len line ∷ []) (rw (r, e) at (w .nums))
 
 -- a block up to a place between two cuts: the lines that it ends there are answered
 pub record FedUpTo (s₀ : Lent) (p block : List ℕ) (s : Lent) (line : List ℕ) (n at : ℕ) : Type 0 where
@@ -186,3 +97,42 @@ module _ (s₀ : Lent) (p block : List ℕ) (s : Lent) (line line' : List ℕ) (
 pub closed-fed : (s₀ : Lent) (p block : List ℕ) (s : Lent) (line : List ℕ) (n at : ℕ) → FedUpTo s₀ p block s line n at → FedIn s₀ p block line n at false s
 closed-fed s₀ p block s line n at u =
     record { short = u .short; place = u .place; whole = λ e. not-so (sym e); rest = sym (u .rest); nums = ap (λ (k : Lent). k .nums) (sym (u .left)) }
+
+-- ── all input ──
+-- the input so far: the lines that it ends are answered, and the rest is the line so far
+pub record ServedUpTo (s₀ s : Lent) (line : List ℕ) (len : ℕ) : Type 0 where
+  pub room : length line ≡ 1024
+  pub short : len ≤ 1024
+  pub input : List ℕ
+  pub rest : lineAfter [] input ≡ take len line
+  pub left : leftBy s₀ (linesIn [] input) ≡ s
+
+pub none-served : (s : Lent) (line : List ℕ) → length line ≡ 1024 → ServedUpTo s s line 0
+unfolding linesIn lineAfter leftBy
+none-served s line h = record { room = h; short = omega arith; input = []; rest = refl; left = refl }
+
+-- a block more, or as much of it as was used
+pub block-served : (s₀ : Lent) (b b' : List ℤ) (names line line' block : List ℕ) (len len' used : ℕ) (going : Bool)
+    → ServedUpTo s₀ (lent b names) line len → FedIn (lent b names) (take len line) block line' len' used going (lent b' names) → length line' ≡ 1024
+    → ServedUpTo s₀ (lent b' names) line' len'
+block-served s₀ b b' names line line' block len len' used going u f room =
+    let more = take used block in
+    record {
+      room = room;
+      short = f .short;
+      input = u .input ++ more;
+      rest = rw (line-append (u .input) more [], u .rest) (sym (f .rest));
+      left = rw (lines-append (u .input) more [], left-append s₀ (linesIn [] (u .input)) (linesIn (lineAfter [] (u .input)) more), u .left, u .rest) (sym (left-parts b b' names (linesIn (take len line) more) (f .nums)));
+    }
+
+module _ (s₀ s : Lent) (line : List ℕ) (len : ℕ) (u : ServedUpTo s₀ s line len) where
+  pub input-served : Served s₀ s
+  input-served = record { input = u .input; nums = ap (λ (k : Lent). k .nums) (sym (u .left) ∙ left-requests s₀ (linesIn [] (u .input))) }
+
+  -- a last line without its end has no form: it leaves all as it is
+  pub last-served : (left : Lent) → left ≡ leftAfter s (readLine (take len line)) → Served s₀ left
+  unfolding leftAfter
+  last-served left e =
+      let r : readLine (take len line) ≡ noForm = rw (← u .rest) (unended (lineAfter [] (u .input)) (line-no-ten (u .input) [] refl)) in
+      let k : left ≡ s = rw r at e in
+      subst (Served s₀) (sym k) input-served

@@ -3,3 +3,4 @@ pub mod Filled
 pub mod Telling
 pub mod Blocks
 pub mod Overlong
+pub mod Program

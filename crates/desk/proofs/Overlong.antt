@@ -17,9 +17,10 @@ use Rattle.model.specs.Text.{isDigit, isNumber, hasDigits, decimal, tabbed, lin
 use Rattle.model.specs.RequestLine.{isPrintable, isName, hasWho, whoField, lineSmall, hasForm, lineFields, fieldsOf, lineOf, Reading, read, noForm, readLine}
 use Rattle.model.specs.AnswerLine.{leftAfter}
 use Rattle.model.proofs.TestLaws.{every-each, and-left, and-right}
-use Rattle.model.proofs.DecimalLaws.{number-written}
+use Rattle.model.proofs.DecimalLaws.{number-written, all-append}
 use Rattle.model.proofs.LineLaws.{written-read}
-use Rattle.desk.specs.Input.{kept, linesIn, leftBy}
+use Rattle.blocks.specs.Cutting.{kept, linesIn, lineAfter}
+use Rattle.desk.specs.Input.{leftBy}
 
 -- ── the length of a request's line ──
 abbrev short : List ℕ → Bool
@@ -117,6 +118,24 @@ pub unended : (s : List ℕ) → noTen s ≡ true → readLine s ≡ noForm
 unfolding readLine
 unended [] e = refl
 unended (x ∷ s) e = rw (no-ten-at (x ∷ s) (suc (length s) - 1) (omega arith) e, le-leb 1 (suc (length s)) (omega arith))
+
+-- the line so far has none
+kept-no-ten : (p : List ℕ) (x : ℕ) → noTen p ≡ true → eqb x 10 ≡ false → noTen (kept p x) ≡ true
+kept-no-ten p x e q = go (ltb (length p) 1024)
+  where
+    go : (t : Bool) → noTen (cond t (p ++ (x ∷ [])) p) ≡ true
+    go true = all-append (λ y. not (eqb y 10)) p (x ∷ []) e (rw q)
+    go false = e
+
+pub line-no-ten : (xs p : List ℕ) → noTen p ≡ true → noTen (lineAfter p xs) ≡ true
+unfolding lineAfter
+line-no-ten [] p e = e
+line-no-ten (x ∷ xs) p e = go (eqb x 10) refl (line-no-ten xs [] refl) (line-no-ten xs (kept p x))
+  where
+    go : (t : Bool) → eqb x 10 ≡ t → noTen (lineAfter [] xs) ≡ true → (noTen (kept p x) ≡ true → noTen (lineAfter (kept p x) xs) ≡ true)
+        → noTen (cond t (lineAfter [] xs) (lineAfter (kept p x) xs)) ≡ true
+    go true q anew on = anew
+    go false q anew on = on (kept-no-ten p x e q)
 
 -- ── a line carried out, whatever its length ──
 abbrev keptAll : List ℕ → List ℕ → List ℕ

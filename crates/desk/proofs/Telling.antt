@@ -26,8 +26,8 @@ use Rattle.model.specs.declared.RequestOutcome.the-variants as RequestCase
 use Rattle.model.specs.Answer.{Answer, committed, refused, requestSays}
 use Rattle.model.specs.Names.{Who, byNumber, byName, whoOf}
 use Rattle.model.specs.Head.{dims}
-use Rattle.model.specs.OrderStatus.{statusFault, statusOrder, linesShown, statusLines, statusCustomer}
-use Rattle.model.specs.Request.{Request, newOrder, payment, delivery, orderStatus, stockLevel, Lent, requestOf, linesOf, nameIn, shownOf, partOf}
+use Rattle.model.specs.OrderStatus.{emptyPart, partOf, statusFault, statusOrder, linesPart, statusPart, statusCustomer}
+use Rattle.model.specs.Request.{Request, newOrder, payment, delivery, orderStatus, stockLevel, Lent, requestOf, linesOf, nameIn, shownPart, shownOf, numsAfter}
 use Rattle.model.specs.RequestLine.{letter, Reading, read, noForm, padTo, itemsOf, suppliesOf, quantitiesOf, selection, nameOfWho, storedLines, storedName, stored, readLine}
 use Rattle.model.specs.AnswerLine.{printed, told, answerLine, noFormLine, printedFor, leftAfter}
 use Rattle.model.proofs.StatusFacts.{StatusUsed, status-ready}
@@ -76,12 +76,21 @@ sample-letter (RequestCase.Delivery o) = refl
 sample-letter (RequestCase.OrderStatus o) = refl
 sample-letter (RequestCase.StockLevel o) = refl
 
+-- the shown lines, read in the book left: only a status shows some, and it leaves the book as it is
+shown-left : (s : Lent) (q : Request) (r : RequestAnswer) (left : Lent) → Carried s q r left → partOf (r .part) (left .nums) ≡ shownOf s q
+unfolding shownPart numsAfter
+shown-left s (newOrder q lines) r left c = rw (c .shows)
+shown-left s (payment q who) r left c = rw (c .shows)
+shown-left s (delivery q) r left c = rw (c .shows)
+shown-left s (orderStatus q who) r left c = rw (c .shows, c .leaves)
+shown-left s (stockLevel q) r left c = rw (c .shows)
+
 -- the line of what a request was answered is the request's
 line-told : (s : Lent) (q : Request) (r : RequestAnswer) (left : Lent) → Carried s q r left → outcomeLine (r .outcome) (r .orders) (partOf (r .part) (left .nums)) ≡ answerLine s q
 unfolding outcomeLine answerLine
 line-told s q r left c =
     let k : letter (sample (r .outcome)) ≡ letter q = sym (sample-letter (r .outcome)) ∙ c .kind in
-    rw (told-kind (sample (r .outcome)) q (requestSays (r .outcome)) (r .orders) (partOf (r .part) (left .nums)) k, k, c .says, c .orders, c .shows)
+    rw (told-kind (sample (r .outcome)) q (requestSays (r .outcome)) (r .orders) (partOf (r .part) (left .nums)) k, k, c .says, c .orders, shown-left s q r left c)
 
 -- ── a status shows at most 15 lines ──
 take-most : (n : ℕ) (zs : List ℤ) → length (take n zs) ≤ n
@@ -89,28 +98,28 @@ take-most zero zs = omega arith
 take-most (suc n) [] = omega arith
 take-most (suc n) (z ∷ zs) = omega (arith, take-most n zs)
 
-lines-most : (b : List ℤ) (names : List ℕ) (q : OrderStatus) (who : Who) (o : ℕ) → statusOrder (dims b) b names q who ≡ o → StatusUsed (dims b) b names q who → length (linesShown (dims b) b (q .warehouse) (q .district) o) ≤ 75
-unfolding linesShown statusOrder
+lines-most : (b : List ℤ) (names : List ℕ) (q : OrderStatus) (who : Who) (o : ℕ) → statusOrder (dims b) b names q who ≡ o → StatusUsed (dims b) b names q who → linesPart (dims b) b (q .warehouse) (q .district) o .count ≤ 75
+unfolding linesPart statusOrder
 lines-most b names q who zero e u = omega arith
 lines-most b names q who (suc o) e u =
     let h = last-in (dims b) b (q .warehouse) (q .district) (statusCustomer (dims b) names q who) in
     let i = u .orders (suc o) (record { lo = omega arith; hi = rw e at h }) in
-    le-trans (take-most _ _) (mul-le-mul-right 5 (i .count-high))
+    mul-le-mul-right 5 (i .count-high)
 
-status-most : (b : List ℤ) (names : List ℕ) (q : OrderStatus) (who : Who) → length (statusLines b names q who) ≤ 75
-unfolding statusLines
+status-most : (b : List ℤ) (names : List ℕ) (q : OrderStatus) (who : Who) → statusPart b names q who .count ≤ 75
+unfolding statusPart
 status-most b names q who = go (eqb (statusFault b names q who .number) 0) refl
   where
-    go : (t : Bool) → eqb (statusFault b names q who .number) 0 ≡ t → length (cond t (linesShown (dims b) b (q .warehouse) (q .district) (statusOrder (dims b) b names q who)) []) ≤ 75
+    go : (t : Bool) → eqb (statusFault b names q who .number) 0 ≡ t → cond t (linesPart (dims b) b (q .warehouse) (q .district) (statusOrder (dims b) b names q who)) emptyPart .count ≤ 75
     go true e = lines-most b names q who (statusOrder (dims b) b names q who) refl (status-ready b names q who (eqb-true _ _ e) .used)
     go false e = omega arith
 
 shown-most : (s : Lent) (q : Request) → length (shownOf s q) ≤ 75
-unfolding shownOf
+unfolding shownPart
 shown-most s (newOrder q lines) = omega arith
 shown-most s (payment q who) = omega arith
 shown-most s (delivery q) = omega arith
-shown-most s (orderStatus q who) = status-most (s .nums) (s .names) q who
+shown-most s (orderStatus q who) = le-trans (take-most _ _) (status-most (s .nums) (s .names) q who)
 shown-most s (stockLevel q) = omega arith
 
 -- ── a reading gives its request back ──
@@ -239,7 +248,7 @@ module _ (s : Lent) (line out m : List ℕ) (n : ℕ) (left : Lent) (h : 2048 �
         let q = requestIn form (a .lines) (a .name) in
         let d : Carried s q r left = rw (front-same (a .lines .count), front-same (a .name .length)) at c in
         let p : lentPart (r .part) (left .nums) ≡ partOf (r .part) (left .nums) = lent-part (r .part) (left .nums) in
-        let few : length (lentPart (r .part) (left .nums)) ≤ 75 = rw (p, d .shows) (shown-most s q) in
+        let few : length (lentPart (r .part) (left .nums)) ≤ 75 = rw (p, shown-left s q r left d) (shown-most s q) in
         stepped (hasRoom out (lentPart (r .part) (left .nums))) (outcomeLine (r .outcome) (r .orders) (lentPart (r .part) (left .nums)))
         (room out (lentPart (r .part) (left .nums)) h few) (rw was-read (ap (outcomeLine (r .outcome) (r .orders)) p ∙ line-told s q r left d)) (rw was-read (d .leaves)) w
 

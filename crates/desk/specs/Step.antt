@@ -1,15 +1,17 @@
--- One line answered, and the program's book opened.
+-- One line answered, the program's book opened, and an answer that speaks of no damage.
 -- Assumes nothing.
 use mathlib.Core.Path.{_≡_}
 use mathlib.Core.Bool.{Bool, true, false, cond}
-use mathlib.Core.List.{List}
+use mathlib.Core.List.{List, _∷_}
+use mathlib.Core.Logic.{_≢_}
 use Prim.Native.Nat.{ℕ}
 use lib.Dec.{leb}
-use lib.IntN.{ℤ}
+use lib.IntN.{ℤ, pos}
 use lib.ListN.{length}
 use Rattle.model.specs.Answer.{Answer, committed, refused}
 use Rattle.model.specs.Opening.{openingAnswer}
 use Rattle.model.specs.Request.{Lent}
+use Rattle.model.specs.Text.{textOf}
 use Rattle.model.specs.RequestLine.{readLine}
 use Rattle.model.specs.AnswerLine.{printedFor, leftAfter}
 use Rattle.answers.specs.Writing.{withLine, lengthIf}
@@ -31,3 +33,14 @@ isCommitted (refused r) = false
 -- a program's book and names: opening accepts them where its answer is true
 pub record Ran (b : List ℤ) (names : List ℕ) (r : Bool) : Type 0 where
   pub opened : r ≡ isCommitted (openingAnswer b names)
+
+abbrev pub None239 : ℕ → Type 0
+None239 n = (n ≢ 2) × ((n ≢ 3) × (n ≢ 9))
+
+-- a printed line: a letter, then a number that is none of 2, 3 and 9
+pub record Sound (line : List ℕ) : Type 0 where
+  pub letter : ℕ
+  pub number : ℕ
+  pub others : List ℤ
+  pub text : line ≡ textOf letter (pos number ∷ others)
+  pub never : None239 number

@@ -5,8 +5,9 @@ ghost use lib.IntN.{pos};
 ghost use lib.ListN.{length, take, replicate};
 ghost use Rattle.model.specs.Request.{lent};
 ghost use Rattle.model.proofs.Listing.{programBook, programNames};
+ghost use Rattle.blocks.specs.Cutting.{Started};
 ghost use Rattle.desk.specs.Step.{Stepped, Ran};
-ghost use Rattle.desk.specs.Input.{kept, Started, CutOff, FedIn};
+ghost use Rattle.desk.specs.Input.{FedIn, Served};
 ghost use Rattle.desk.specs.Filling.{headTo, districtsTo, pricesTo, stocksTo, twoNames};
 use libc::STDIN_FILENO;
 use libc::STDOUT_FILENO;
@@ -135,51 +136,6 @@ pub fn step(b: &mut [i64], names: &[u8], line: &[u8], out: &mut [u8]) -> usize
     }
 }
 
-// A byte put to a line so far. Of an overlong line the first 1,024 bytes are kept, which have no form.
-fn keep(line: &mut [u8], n: usize, x: u8) -> usize
-    requires { ⌜ (length (now line) ≡ 1024) × (n ≤ 1024) ⌝ }
-    ensures { λ r. ⌜ (take r (now (line .exit)) ≡ kept (take n (now (line .entry))) x) × (r ≤ 1024) ⌝ }
-{
-    if n < 1024 {
-        line[n] = x;
-        return n + 1;
-    }
-    n
-}
-
-// The bytes of the line so far, the place after the bytes taken, and whether they end the line.
-struct Taken {
-    len: usize,
-    next: usize,
-    ended: bool,
-}
-
-// Bytes of a block taken into the line so far, from a place up to the line's end or the block's.
-fn cut(line: &mut [u8], len: usize, block: &[u8], at: usize) -> Taken
-    requires { ⌜ Started (now line) len (now block) at ⌝ }
-    ensures { λ r. ⌜ CutOff (take len (now (line .entry))) (now (block .entry)) at (now (line .exit)) (r .len) (r .next) (r .ended) ⌝ }
-{
-    let mut n = len;
-    let mut i = at;
-    while i < block.len() {
-        let x = block[i];
-        n = keep(line, n, x);
-        i += 1;
-        if x == 10 {
-            return Taken {
-                len: n,
-                next: i,
-                ended: true,
-            };
-        }
-    }
-    Taken {
-        len: n,
-        next: i,
-        ended: false,
-    }
-}
-
 // The bytes of the line so far, those used of the block, and whether the output still takes answers.
 struct Fed {
     len: usize,
@@ -199,7 +155,7 @@ fn feed(b: &mut [i64], names: &[u8], line: &mut [u8], len: usize, block: &[u8]) 
     let mut n = len;
     let mut at = 0;
     loop {
-        let c = cut(line, n, block, at);
+        let c = blocks::cut(line, n, block, at);
         n = c.len;
         at = c.next;
         if !c.ended {
@@ -222,7 +178,9 @@ fn feed(b: &mut [i64], names: &[u8], line: &mut [u8], len: usize, block: &[u8]) 
 }
 
 // Standard input answered line by line, until it ends or the output is closed; a last line without its end is answered too.
-fn serve(b: &mut [i64], names: &[u8]) {
+fn serve(b: &mut [i64], names: &[u8])
+    ensures { λ _. ⌜ Served (lent (now (b .entry)) (now (names .entry))) (lent (now (b .exit)) (now (names .entry))) ⌝ }
+{
     let mut block = [0u8; 4096];
     let mut line = [0u8; 1024];
     let mut len: usize = 0;

@@ -7,7 +7,7 @@ use Rattle.model.specs.declared.RequestAnswer.{RequestAnswer}
 use Rattle.model.specs.declared.RequestOutcome.{RequestOutcome}
 use Rattle.model.specs.declared.RequestOutcome.the-variants as RequestCase
 use Rattle.model.specs.Answer.{requestSays}
-use Rattle.model.specs.Request.{Request, Lent, answerOf, ordersOf, shownOf, partOf, after}
+use Rattle.model.specs.Request.{Request, Lent, answerOf, ordersOf, shownPart, after}
 use Rattle.model.specs.RequestLine.{letter}
 
 -- the letter of the requests that an outcome answers
@@ -24,5 +24,5 @@ pub record Carried (s : Lent) (q : Request) (r : RequestAnswer) (left : Lent) : 
   pub says : requestSays (r .outcome) ≡ answerOf s q
   pub orders : r .orders ≡ ordersOf s q
   pub within : r .part .from + r .part .count ≤ length (left .nums)
-  pub shows : partOf (r .part) (left .nums) ≡ shownOf s q
+  pub shows : r .part ≡ shownPart s q
   pub leaves : left .nums ≡ after s q .nums

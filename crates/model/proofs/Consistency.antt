@@ -19,6 +19,7 @@ use Rattle.model.specs.Store.{get, num, rowOf}
 use Rattle.model.specs.Rows.{historyCount, warehouseYtd, districtYtd, nextOrder, balance, ytdPayment, paymentCnt, deliveryCnt, orderCol, orderRow, orderCustomer, carrier, lineCount, historyCol}
 use Rattle.model.specs.Head.{dims}
 use Rattle.model.specs.Lists.{largest}
+use Rattle.model.specs.Used.{orderUsed}
 use Rattle.model.specs.Delivery.{waits, oldest}
 use Rattle.model.specs.Opening.{openingFault}
 use Rattle.model.specs.Request.{Request, Lent}
@@ -32,7 +33,9 @@ use Rattle.model.proofs.StepDeliver.{next-num, oldest-is}
 use Rattle.model.proofs.Sums.{sumUp, oneIf, howMany, sum-none, sum-last, sum-first, sum-same, sum-zero}
 use Rattle.model.proofs.Booked.{isPaidTo, isPaidAt}
 use Rattle.model.proofs.SlotLaws.{slot-waits, slot-customer, slot-lines, slot-used, slot-carrier, slot-dates, slot-amounts}
+use Rattle.model.proofs.RowFacts.{in-order}
 use Rattle.model.proofs.Calls.{Good}
+use Rattle.model.proofs.Never.{orders-in}
 use Rattle.model.proofs.Demand.{history-good}
 
 -- ── rows ──
@@ -76,7 +79,8 @@ paidAmounts d b w k c = sumUp (num (shapes d) b historyCount) (λ h. cond (isPay
 pub record Consistent (d : Dims) (b : List ℤ) : Type 0 where
   -- 1: W_YTD = sum(D_YTD)
   pub one : (w : ℕ) → R (d .warehouses) w → num (shapes d) b (warehouseYtd w) ≡ sumUp 10 (λ k. num (shapes d) b (districtYtd w k))
-  -- 2: D_NEXT_O_ID − 1 = max(O_ID) = max(NO_O_ID), the latter where an order waits
+  -- 2: D_NEXT_O_ID − 1 = max(O_ID): the rows 1 to next − 1 are ORDER rows, in range; = max(NO_O_ID), where an order waits
+  pub two-orders : (w k o : ℕ) → R (d .warehouses) w → R 10 k → R (orderCount d b w k) o → orderUsed d b w k o ≡ true
   pub two : (w k o : ℕ) → R (d .warehouses) w → R 10 k → R (orderCount d b w k) o → waits d b w k o ≡ true → largest (waits d b w k) (orderCount d b w k) ≡ orderCount d b w k
   -- 3: max(NO_O_ID) − min(NO_O_ID) + 1 = number of NEW-ORDER rows, where an order waits
   pub three : (w k o : ℕ) → R (d .warehouses) w → R 10 k → R (orderCount d b w k) o → waits d b w k o ≡ true
@@ -349,6 +353,7 @@ module _ (D : Dims) (b₀ : List ℤ) (t : Tally) (b : List ℤ) (g : Good D b�
         warehouse-is w r
         ∙ g .booked .ten w
         ∙ sym (sum-same 10 (λ k. num (shapes D) b (districtYtd w k)) (t .district w) (λ k s. district-is w k r s));
+    two-orders = λ w k o r s u. in-order D b w k o (orders-in D b₀ t b g w k r s o u);
     two = λ w k o r s u e. newest-is w k r s (some-waits w k r s o (in-count w k r s u) e) ∙ sym (count-is w k r s);
     three = λ w k o r s u e.
         let h = some-waits w k r s o (in-count w k r s u) e in

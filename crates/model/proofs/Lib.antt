@@ -43,3 +43,4 @@ pub mod Masters
 pub mod SlotLaws
 pub mod Consistency
 pub mod Listing
+pub mod Readings

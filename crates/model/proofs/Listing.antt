@@ -23,14 +23,14 @@ use Rattle.model.specs.Opening.{newWarehouse, newDistrict, newCustomer, 
 use Rattle.model.specs.NewOrder.{newAsked, priceOf, orderable, newUsed, newOrderFault, restock, newOrderCommit, orderTotal, newOrderTotal, newOrderAnswer, newOrderBook}
 use Rattle.model.specs.Payment.{payAsked, payUsed, paymentFault, payer, paymentCommit, paidBalance, paymentAnswer, paymentBook}
 use Rattle.model.specs.Delivery.{deliveryAsked, deliverable, deliveryUsed, deliveryFault, waits, oldest, lineAmounts, deliverOrder, deliverDistrict, deliverTo, deliveryCommit, oldestTen, deliveryAnswer, deliveryOrders, deliveryBook}
-use Rattle.model.specs.OrderStatus.{statusAsked, statusUsed, statusFault, lastOrder, statusCustomer, statusOrder, orderShown, linesShown, statusAnswer, statusLines}
+use Rattle.model.specs.OrderStatus.{statusAsked, statusUsed, statusFault, lastOrder, statusCustomer, statusOrder, orderShown, linesPart, statusAnswer, statusPart}
 use Rattle.model.specs.StockLevel.{windowFirst, windowCount, levelAsked, windowUsed, levelUsed, stockLevelFault, lineItems, windowItems, isLow, lowItems, stockLevelAnswer}
-use Rattle.model.specs.Request.{Lent, lent, answerOf, ordersOf, shownOf, numsAfter}
+use Rattle.model.specs.Request.{Lent, lent, answerOf, ordersOf, shownPart, numsAfter}
 use Rattle.model.specs.Text.{isNumber, valueOf, decimal, tabbed, lineText, partedBy}
 use Rattle.model.specs.RequestLine.{isName, isWho, whoRead, linesRead, readNewOrder, readPayment, readDelivery, readOrderStatus, readStockLevel, readFields, readLine}
 use Rattle.model.specs.AnswerLine.{answerLine, noFormLine, printedFor, leftAfter}
 
-abbrev times : {A : Type 0} → ℕ → List A → List A
+abbrev pub times : {A : Type 0} → ℕ → List A → List A
 times zero xs = []
 times (suc n) xs = xs ++ times n xs
 
@@ -53,15 +53,15 @@ programNames =
     times 10 ((65 ∷ 76 ∷ 77 ∷ replicate 13 32) ++ (69 ∷ 86 ∷ 65 ∷ replicate 13 32) ++ (65 ∷ 76 ∷ 77 ∷ replicate 13 32) ++ (66 ∷ 79 ∷ replicate 14 32))
 
 -- a line of the paper, in which each space stands for a tab, as bytes
-abbrev bytes : String → List ℕ
+abbrev pub bytes : String → List ℕ
 bytes none = []
 bytes (c then s) = cond (eqb (code c) 32) 9 (code c) ∷ bytes s
 
-abbrev lines : List String → List (List ℕ)
+abbrev pub lines : List String → List (List ℕ)
 lines [] = []
 lines (s ∷ ss) = (bytes s ++ (10 ∷ [])) ∷ lines ss
 
-abbrev answered : Lent → List (List ℕ) → List (List ℕ)
+abbrev pub answered : Lent → List (List ℕ) → List (List ℕ)
 answered s [] = []
 answered s (x ∷ xs) = printedFor s (readLine x) ∷ answered (leftAfter s (readLine x)) xs
 
@@ -89,5 +89,5 @@ pub listing : answered (lent programBook programNames) (lines (
     "P 0 2 -500" ∷
     "S 0 1 1750 1 100 3 1 1 10 1000 200 2 1 3 750 200" ∷
     "L 0 1" ∷ [])
-unfolding allTo nat cell balanceOk numbers nameBytes inside place get remap op upTo sumOf lowest largest warehouseTests districtTests customerTests itemTests stockTests slot orderTests lineTests orderOk dims dimsTests sizeTests headOk namePlace lastName firstName nameOk padded compareNames named before namesakes found customerOf warehouseUsed districtUsed customerUsed itemUsed stockUsed orderUsed customersUsed namesUsed ordersUsed whoUsed lineUsed newAsked priceOf orderable newUsed newOrderFault restock newOrderCommit orderTotal newOrderTotal newOrderAnswer newOrderBook payAsked payUsed paymentFault payer paymentCommit paidBalance paymentAnswer paymentBook deliveryAsked deliverable deliveryUsed deliveryFault waits oldest lineAmounts deliverOrder deliverDistrict deliverTo deliveryCommit oldestTen deliveryAnswer deliveryBook statusAsked statusUsed statusFault lastOrder statusCustomer statusOrder orderShown linesShown statusAnswer statusLines windowFirst windowCount levelAsked windowUsed levelUsed stockLevelFault lineItems windowItems isLow lowItems stockLevelAnswer answerOf numsAfter deliveryOrders ones ordersOf shownOf decimal tabbed lineText answerLine noFormLine printedFor leftAfter isNumber valueOf isName isWho whoRead partedBy linesRead readNewOrder readPayment readDelivery readOrderStatus readStockLevel readFields readLine
+unfolding allTo nat cell balanceOk numbers nameBytes inside place get remap op upTo sumOf lowest largest warehouseTests districtTests customerTests itemTests stockTests slot orderTests lineTests orderOk dims dimsTests sizeTests headOk namePlace lastName firstName nameOk padded compareNames named before namesakes found customerOf warehouseUsed districtUsed customerUsed itemUsed stockUsed orderUsed customersUsed namesUsed ordersUsed whoUsed lineUsed newAsked priceOf orderable newUsed newOrderFault restock newOrderCommit orderTotal newOrderTotal newOrderAnswer newOrderBook payAsked payUsed paymentFault payer paymentCommit paidBalance paymentAnswer paymentBook deliveryAsked deliverable deliveryUsed deliveryFault waits oldest lineAmounts deliverOrder deliverDistrict deliverTo deliveryCommit oldestTen deliveryAnswer deliveryBook statusAsked statusUsed statusFault lastOrder statusCustomer statusOrder orderShown linesPart statusAnswer statusPart windowFirst windowCount levelAsked windowUsed levelUsed stockLevelFault lineItems windowItems isLow lowItems stockLevelAnswer answerOf numsAfter deliveryOrders ones ordersOf shownPart decimal tabbed lineText answerLine noFormLine printedFor leftAfter isNumber valueOf isName isWho whoRead partedBy linesRead readNewOrder readPayment readDelivery readOrderStatus readStockLevel readFields readLine
 listing = refl

@@ -87,6 +87,40 @@ dims-pass d h =
       ),
     )
 
+-- ── the orders before next are in range ──
+module _ (D : Dims) (b₀ : List ℤ) (t : Tally) (b : List ℤ) (g : Good D b₀ t b) where
+  order-row : (w k j : ℕ) → R (D .warehouses) w → R 10 k → j < N t w k → OrderIn D b w k (suc j)
+  order-row w k j r s h =
+      let x = g .agrees .order .slots w k j r s h .row in
+      record {
+        customer-low = nat-low (x .customer);
+        customer-high = nat-high (x .customer);
+        date-low = nat-low (x .date);
+        date-high = nat-high (x .date);
+        carried = nat-high (x .carrier);
+        count-low = nat-low (x .count);
+        count-high = nat-high (x .count);
+        local = nat-high (x .local);
+        waits = nat-high (x .waits);
+        lines = λ j q.
+            let l = x .lines j q in
+            record {
+              item-low = nat-low (l .item);
+              item-high = nat-high (l .item);
+              supply-low = nat-low (l .supply);
+              supply-high = nat-high (l .supply);
+              quantity-low = nat-low (l .quantity);
+              quantity-high = nat-high (l .quantity);
+              amount-low = nat-low (l .amount);
+              amount-high = nat-high (l .amount);
+              date-high = nat-high (l .date);
+            };
+      }
+
+  pub orders-in : (w k : ℕ) → R (D .warehouses) w → R 10 k → (o : ℕ) → R (num (shapes D) b (nextOrder w k) - 1) o → OrderIn D b w k o
+  orders-in w k r s zero q = absurd (omega (arith, q .lo))
+  orders-in w k r s (suc j) q = order-row w k j r s (omega (arith, q .hi, next-num D b₀ t b (g .agrees) w k r s))
+
 module _ (D : Dims) (b₀ : List ℤ) (names : List ℕ) (fr : Fresh D b₀ names) (t : Tally) (b : List ℤ) (g : Good D b₀ t b) where
   -- ── the bounds, in numbers ──
   payments-le : length (t .payments) ≤ 1000000
@@ -152,38 +186,6 @@ module _ (D : Dims) (b₀ : List ℤ) (names : List ℕ) (fr : Fresh D b₀ name
         remotes = omega (arith, count-nat (g .agrees .stock .remotes-to w i r s), lots-le w i);
       }
 
-  order-row : (w k j : ℕ) → R (D .warehouses) w → R 10 k → j < N t w k → OrderIn D b w k (suc j)
-  order-row w k j r s h =
-      let x = g .agrees .order .slots w k j r s h .row in
-      record {
-        customer-low = nat-low (x .customer);
-        customer-high = nat-high (x .customer);
-        date-low = nat-low (x .date);
-        date-high = nat-high (x .date);
-        carried = nat-high (x .carrier);
-        count-low = nat-low (x .count);
-        count-high = nat-high (x .count);
-        local = nat-high (x .local);
-        waits = nat-high (x .waits);
-        lines = λ j q.
-            let l = x .lines j q in
-            record {
-              item-low = nat-low (l .item);
-              item-high = nat-high (l .item);
-              supply-low = nat-low (l .supply);
-              supply-high = nat-high (l .supply);
-              quantity-low = nat-low (l .quantity);
-              quantity-high = nat-high (l .quantity);
-              amount-low = nat-low (l .amount);
-              amount-high = nat-high (l .amount);
-              date-high = nat-high (l .date);
-            };
-      }
-
-  orders-in : (w k : ℕ) → R (D .warehouses) w → R 10 k → (o : ℕ) → R (num (shapes D) b (nextOrder w k) - 1) o → OrderIn D b w k o
-  orders-in w k r s zero q = absurd (omega (arith, q .lo))
-  orders-in w k r s (suc j) q = order-row w k j r s (omega (arith, q .hi, next-num D b₀ t b (g .agrees) w k r s))
-
   -- ── the tests of used rows ──
   head-pass : headOk b (length names) ≡ true
   unfolding headOk sizeTests
@@ -233,7 +235,7 @@ module _ (D : Dims) (b₀ : List ℤ) (names : List ℕ) (fr : Fresh D b₀ name
   unfolding deliverable
   deliverable-pass w k r s =
       each-every (districtUsed D b w k ∷ customersUsed D b w k ∷ ordersUsed D b w k ∷ [])
-      (in-district D b w k (district-row w k r s), (at-customers D b w k (λ c u. customer-row w k c r s u), (at-orders D b w k (orders-in w k r s), tt)))
+      (in-district D b w k (district-row w k r s), (at-customers D b w k (λ c u. customer-row w k c r s u), (at-orders D b w k (orders-in D b₀ t b g w k r s), tt)))
 
   -- ── 9, call by call ──
   pay-9 : (q : Payment) (who : Who) → PassAt 9 (chk (headOk b (length names)) 2 ∷ payAsked D q who ++ payUsed D b names q who)
@@ -328,7 +330,7 @@ module _ (D : Dims) (b₀ : List ℤ) (names : List ℕ) (fr : Fresh D b₀ name
                 in-district D b (q .warehouse) (q .district) (district-row (q .warehouse) (q .district) w k),
                 λ _. (
                   who-pass (q .warehouse) (q .district) who w k e6,
-                  λ _. (at-orders D b (q .warehouse) (q .district) (orders-in (q .warehouse) (q .district) w k), λ _. (tt, λ _. tt)),
+                  λ _. (at-orders D b (q .warehouse) (q .district) (orders-in D b₀ t b g (q .warehouse) (q .district) w k), λ _. (tt, λ _. tt)),
                 ),
               ),
         ),
@@ -352,7 +354,7 @@ module _ (D : Dims) (b₀ : List ℤ) (names : List ℕ) (fr : Fresh D b₀ name
               let d = district-row (q .warehouse) (q .district) w k in (
                 in-district D b (q .warehouse) (q .district) d,
                 λ _. (
-                  at-window D b (q .warehouse) (q .district) (d .next-low) (orders-in (q .warehouse) (q .district) w k),
+                  at-window D b (q .warehouse) (q .district) (d .next-low) (orders-in D b₀ t b g (q .warehouse) (q .district) w k),
                   λ _. (all-to (stockUsed D b (q .warehouse)) (D .items) (λ i s. in-stock D b (q .warehouse) i (stock-row (q .warehouse) i w s)), λ _. tt),
                 ),
               ),

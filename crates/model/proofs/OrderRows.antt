@@ -20,7 +20,7 @@ use Rattle.model.specs.Numbers.{nat}
 use Rattle.model.specs.Lists.{upTo, sumOf}
 use Rattle.model.specs.Rows.{line}
 use Rattle.model.specs.NewOrder.{lineNumbers, orderNumbers}
-use Rattle.model.specs.Delivery.{lineAmounts, dateCol}
+use Rattle.model.specs.Delivery.{lineAmounts, handOver}
 use Rattle.model.specs.Tally.{Order, worth}
 use Rattle.model.specs.Claim.{R}
 use Rattle.model.proofs.ListLaws.{up-same, up-cons}
@@ -233,7 +233,7 @@ new-slot D pr q ls rc rd rl s p = record {
 
 -- ── an order is delivered ──
 abbrev pub handed : ℕ → ℕ → ℕ → (ℕ → ℤ) → ℕ → ℤ
-handed car date n r k = cond (eqb k 2) (pos car) (cond (eqb k 5) (pos 0) (cond (dateCol n k) (pos date) (r k)))
+handed car date n r k = handOver car date n k (r k)
 
 module _ (car date n : ℕ) (r : ℕ → ℤ) where
   -- a column of a line that is no date

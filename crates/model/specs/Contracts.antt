@@ -3,7 +3,7 @@
 -- Assumes nothing.
 use mathlib.Core.Path.{_≡_}
 use mathlib.Core.List.{List}
-use Prim.Native.Nat.{ℕ}
+use Prim.Native.Nat.{ℕ, _+_, _*_}
 use lib.IntN.{ℤ}
 use Rattle.model.specs.declared.Line.{Line}
 use Rattle.model.specs.declared.NewOrder.{NewOrder}
@@ -23,7 +23,7 @@ use Rattle.model.specs.Opening.{openingAnswer}
 use Rattle.model.specs.NewOrder.{newOrderAnswer, newOrderBook}
 use Rattle.model.specs.Payment.{paymentAnswer, paymentBook}
 use Rattle.model.specs.Delivery.{deliveryAnswer, deliveryOrders, deliveryBook}
-use Rattle.model.specs.OrderStatus.{statusAnswer, statusLines}
+use Rattle.model.specs.OrderStatus.{statusAnswer, statusPart, statusLines}
 use Rattle.model.specs.StockLevel.{stockLevelAnswer}
 
 -- "Opening writes nothing."
@@ -44,10 +44,11 @@ pub record DeliveryCall (b : List ℤ) (names : List ℕ) (q : Delivery) (r : De
   pub orders : r .orders ≡ deliveryOrders b names q
   pub leaves : left ≡ deliveryBook b names q
 
--- "its lines are shown as that part of the lent book, not copied"
-pub record StatusCall (b : List ℤ) (names : List ℕ) (q : OrderStatus) (who : Who) (outcome : StatusOutcome) (shown : List ℤ) : Type 0 where
+-- "its lines are shown as that part of the lent book, not copied": the returned slice lies in the lent one, 8 bytes a number
+pub record StatusCall (b : List ℤ) (names : List ℕ) (q : OrderStatus) (who : Who) (outcome : StatusOutcome) (shown : List ℤ) (book at : ℕ × ℕ) : Type 0 where
   pub says : statusSays outcome ≡ statusAnswer b names q who
   pub shows : shown ≡ statusLines b names q who
+  pub lies : at ≡ (book .0, book .1 + 8 * statusPart b names q who .from)
 
 pub record StockLevelCall (b : List ℤ) (names : List ℕ) (q : StockLevel) (r : StockLevelAnswer) : Type 0 where
   pub says : stockLevelSays (r .outcome) ≡ stockLevelAnswer b names q

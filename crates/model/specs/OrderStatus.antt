@@ -7,6 +7,7 @@ use lib.IntN.{ℤ, pos}
 use lib.ListN.{length, take, drop}
 use Rattle.model.specs.declared.Dims.{Dims}
 use Rattle.model.specs.declared.OrderStatus.{OrderStatus}
+use Rattle.model.specs.declared.Part.{Part}
 use Rattle.model.specs.declared.Refusal.{Refusal}
 use Rattle.model.specs.Tests.{every, within, Check, chk, staged}
 use Rattle.model.specs.Layout.{shapes, place}
@@ -54,10 +55,17 @@ unfoldable pub orderShown : Dims → List ℤ → ℕ → ℕ → ℕ → List �
 orderShown d b w k zero = pos 0 ∷ pos 0 ∷ pos 0 ∷ []
 orderShown d b w k (suc o) = pos (suc o) ∷ pos (num (shapes d) b (entryDate d w k (suc o))) ∷ pos (num (shapes d) b (carrier d w k (suc o))) ∷ []
 
--- "its lines are shown as that part of the lent book, not copied": line count times five numbers, from the slot's first line on
-unfoldable pub linesShown : Dims → List ℤ → ℕ → ℕ → ℕ → List ℤ
-linesShown d b w k zero = []
-linesShown d b w k (suc o) = take (num (shapes d) b (lineCount d w k (suc o)) * 5) (drop (place (shapes d) (orderCol d w k (suc o) 6)) b)
+-- a part of the book by where it starts and how many numbers it has, and the numbers
+abbrev pub emptyPart : Part
+emptyPart = record { from = 0; count = 0 }
+
+abbrev pub partOf : Part → List ℤ → List ℤ
+partOf p b = take (p .count) (drop (p .from) b)
+
+-- "returned subslice of the book's numbers: line count times five, starting in the order slot", with its first line; "an empty part" without an order
+unfoldable pub linesPart : Dims → List ℤ → ℕ → ℕ → ℕ → Part
+linesPart d b w k zero = emptyPart
+linesPart d b w k (suc o) = record { from = place (shapes d) (orderCol d w k (suc o) 6); count = num (shapes d) b (lineCount d w k (suc o)) * 5 }
 
 -- "Answered: customer, balance, and the largest order number of that customer with entry date and carrier"
 unfoldable pub statusAnswer : List ℤ → List ℕ → OrderStatus → Who → Answer
@@ -68,6 +76,10 @@ statusAnswer b names q who =
     ∷ orderShown (dims b) b (q .warehouse) (q .district) (statusOrder (dims b) b names q who))
 
 -- "a refused status shows an empty part"
+unfoldable pub statusPart : List ℤ → List ℕ → OrderStatus → Who → Part
+statusPart b names q who =
+    leftBy (statusFault b names q who) (linesPart (dims b) b (q .warehouse) (q .district) (statusOrder (dims b) b names q who)) emptyPart
+
+-- "its lines are shown as that part of the lent book, not copied"
 unfoldable pub statusLines : List ℤ → List ℕ → OrderStatus → Who → List ℤ
-statusLines b names q who =
-    leftBy (statusFault b names q who) (linesShown (dims b) b (q .warehouse) (q .district) (statusOrder (dims b) b names q who)) []
+statusLines b names q who = partOf (statusPart b names q who) b

@@ -3,7 +3,7 @@
 use mathlib.Core.List.{List, [], _∷_}
 use Prim.Native.Nat.{ℕ}
 use lib.IntN.{ℤ}
-use lib.ListN.{getD, take, drop, replicate}
+use lib.ListN.{getD, take, replicate}
 use Rattle.model.specs.declared.Delivery.{Delivery}
 use Rattle.model.specs.declared.Form.{Form}
 use Rattle.model.specs.declared.Form.the-variants as Form
@@ -20,7 +20,7 @@ use Rattle.model.specs.Answer.{Answer}
 use Rattle.model.specs.NewOrder.{newOrderFault, newOrderAnswer, newOrderBook}
 use Rattle.model.specs.Payment.{paymentFault, paymentAnswer, paymentBook}
 use Rattle.model.specs.Delivery.{deliveryFault, deliveryAnswer, deliveryOrders, deliveryBook}
-use Rattle.model.specs.OrderStatus.{statusFault, statusAnswer, statusLines}
+use Rattle.model.specs.OrderStatus.{emptyPart, partOf, statusFault, statusAnswer, statusPart}
 use Rattle.model.specs.StockLevel.{stockLevelFault, stockLevelAnswer}
 
 pub data Request : Type 0 where
@@ -78,7 +78,7 @@ answerOf s (delivery q) = deliveryAnswer (s .nums) (s .names) q
 answerOf s (orderStatus q who) = statusAnswer (s .nums) (s .names) q who
 answerOf s (stockLevel q) = stockLevelAnswer (s .nums) (s .names) q
 
--- beside the answer: Delivery's ten numbers, and the lines that a status shows
+-- beside the answer: Delivery's ten numbers, and where the lines are that a status shows
 unfoldable pub ordersOf : Lent → Request → List ℕ
 ordersOf s (newOrder q lines) = replicate 10 0
 ordersOf s (payment q who) = replicate 10 0
@@ -86,16 +86,16 @@ ordersOf s (delivery q) = deliveryOrders (s .nums) (s .names) q
 ordersOf s (orderStatus q who) = replicate 10 0
 ordersOf s (stockLevel q) = replicate 10 0
 
-unfoldable pub shownOf : Lent → Request → List ℤ
-shownOf s (newOrder q lines) = []
-shownOf s (payment q who) = []
-shownOf s (delivery q) = []
-shownOf s (orderStatus q who) = statusLines (s .nums) (s .names) q who
-shownOf s (stockLevel q) = []
+unfoldable pub shownPart : Lent → Request → Part
+shownPart s (newOrder q lines) = emptyPart
+shownPart s (payment q who) = emptyPart
+shownPart s (delivery q) = emptyPart
+shownPart s (orderStatus q who) = statusPart (s .nums) (s .names) q who
+shownPart s (stockLevel q) = emptyPart
 
--- the part of a book that two numbers name
-abbrev pub partOf : Part → List ℤ → List ℤ
-partOf p b = take (p .count) (drop (p .from) b)
+-- the lines themselves
+abbrev pub shownOf : Lent → Request → List ℤ
+shownOf s r = partOf (shownPart s r) (s .nums)
 
 -- the book's numbers as a call leaves them
 unfoldable pub numsAfter : Lent → Request → List ℤ

@@ -8,7 +8,7 @@ use Prim.Native.Nat.{ℕ, zero, suc, _+_, _-_, _*_, _≤_, _<_, _^_}
 use native.Mathlib.Omega.{arith}
 use lib.Dec.{eqb}
 use lib.IntN.{ℤ, pos}
-use lib.ListN.{length, getD, take, drop}
+use lib.ListN.{length, getD}
 use borrow.Author.Tests.{eq-eqb, ne-eqb, leb-true, not-true, not-false}
 use Rattle.model.specs.declared.Dims.{Dims}
 use Rattle.model.specs.declared.OrderStatus.{OrderStatus}
@@ -23,7 +23,7 @@ use Rattle.model.specs.Names.{Who}
 use Rattle.model.specs.Lists.{largest}
 use Rattle.model.specs.Used.{ordersUsed}
 use Rattle.model.specs.Answer.{committed, refused, statusSays}
-use Rattle.model.specs.OrderStatus.{statusAsked, statusUsed, statusFault, lastOrder, statusCustomer, statusOrder, orderShown, linesShown, statusAnswer, statusLines}
+use Rattle.model.specs.OrderStatus.{statusAsked, statusUsed, statusFault, lastOrder, statusCustomer, statusOrder, orderShown, emptyPart, linesPart, statusAnswer, statusPart}
 use Rattle.model.specs.Claim.{R}
 use Rattle.model.proofs.TestLaws.{every-each, and-left}
 use Rattle.model.proofs.ListLaws.{largest-here, largest-past, largest-same}
@@ -31,8 +31,6 @@ use Rattle.model.proofs.Fields.{Dimensioned, place-col}
 use Rattle.model.proofs.RowFacts.{OrderIn}
 use Rattle.model.proofs.StatusFacts.{StatusReady, status-ready}
 use Rattle.model.proofs.RuleLaws.{last-in}
-use Rattle.model.specs.declared.Part.{Part}
-use Rattle.model.specs.Request.{partOf}
 use Rattle.model.proofs.AnswerLaws.{refused-is, kept-is}
 use Rattle.layout.specs.declared.Run.{Run}
 use Rattle.layout.specs.Runs.{rowIn, RunOf}
@@ -111,10 +109,10 @@ module _ (b : List ℤ) (names : List ℕ) (q : OrderStatus) (who : Who) where
 
   -- ── a status that is refused ──
   pub turned-call : {r : Refusal} {a : Shown} → r ≡ statusFault b names q who → r .number ≢ 0 → statusSays (a .outcome) ≡ refused r
-      → a .part ≡ record { from = 0; count = 0 } → ShownCall b names q who a
-  unfolding statusAnswer statusLines
+      → a .part ≡ emptyPart → ShownCall b names q who a
+  unfolding statusAnswer statusPart
   turned-call e n es ep =
-      record { says = es ∙ refused-is e (pos (statusCustomer (dims b) names q who) ∷ get (shapes (dims b)) b (balance (q .warehouse) (q .district) (statusCustomer (dims b) names q who)) ∷ orderShown (dims b) b (q .warehouse) (q .district) (statusOrder (dims b) b names q who)) n; within = rw ep (omega arith); shows = ap (λ (x : Part). partOf x b) ep ∙ kept-is e (linesShown (dims b) b (q .warehouse) (q .district) (statusOrder (dims b) b names q who)) [] n }
+      record { says = es ∙ refused-is e (pos (statusCustomer (dims b) names q who) ∷ get (shapes (dims b)) b (balance (q .warehouse) (q .district) (statusCustomer (dims b) names q who)) ∷ orderShown (dims b) b (q .warehouse) (q .district) (statusOrder (dims b) b names q who)) n; within = rw ep (omega arith); shows = ep ∙ kept-is e (linesPart (dims b) b (q .warehouse) (q .district) (statusOrder (dims b) b names q who)) emptyPart n }
 
 -- ── what is shown of an order ──
 module _ (d : Dims) (b : List ℤ) (w k : ℕ) where
@@ -128,13 +126,13 @@ module _ (d : Dims) (b : List ℤ) (w k : ℕ) where
   shown-some zero n e f = absurd (n refl)
   shown-some (suc o) n e f = rw (e, f)
 
-  pub lines-none : {o : ℕ} → o ≡ 0 → [] ≡ linesShown d b w k o
-  unfolding linesShown
+  pub lines-none : {o : ℕ} → o ≡ 0 → emptyPart ≡ linesPart d b w k o
+  unfolding linesPart
   lines-none e = rw e
 
   pub lines-some : (o : ℕ) {n p : ℕ} → 1 ≤ o → n ≡ num (shapes d) b (lineCount d w k o) → p ≡ place (shapes d) (orderRow d w k o)
-      → take (n * 5) (drop (p + 6) b) ≡ linesShown d b w k o
-  unfolding linesShown
+      → record { from = p + 6; count = n * 5 } ≡ linesPart d b w k o
+  unfolding linesPart
   lines-some zero h e f = absurd (omega arith)
   lines-some (suc o) h e f = rw (e, f, place-col (shapes d) b 6 w k (slot d (suc o)) 6)
 
@@ -181,6 +179,6 @@ module _ (b : List ℤ) (names : List ℕ) (q : OrderStatus) (who : Who) {s : Se
       let h = last-in (dims b) b (q .warehouse) (q .district) (statusCustomer (dims b) names q who) in
       u .orders (s .order) (record { lo = omega arith; hi = rw (order-is z, order-last) h })
 
-  pub shown-lines : s .refusal .number ≡ 0 → linesShown (dims b) b (q .warehouse) (q .district) (s .order) ≡ statusLines b names q who
-  unfolding statusLines
-  shown-lines z = rw (order-is z, eq-eqb (statusFault b names q who .number) 0 (none z))
+  pub shown-part : s .refusal .number ≡ 0 → linesPart (dims b) b (q .warehouse) (q .district) (s .order) ≡ statusPart b names q who
+  unfolding statusPart
+  shown-part z = rw (order-is z, eq-eqb (statusFault b names q who .number) 0 (none z))

@@ -14,8 +14,7 @@ use Rattle.model.specs.declared.OrderStatus.{OrderStatus}
 use Rattle.model.specs.Tests.{bare, fault}
 use Rattle.model.specs.Names.{Who}
 use Rattle.model.specs.Answer.{leftBy, statusSays}
-use Rattle.model.specs.OrderStatus.{statusAsked, statusUsed, statusCustomer, statusOrder, statusAnswer, statusLines}
-use Rattle.model.specs.Request.{partOf}
+use Rattle.model.specs.OrderStatus.{statusAsked, statusUsed, statusCustomer, statusOrder, statusAnswer, statusPart}
 use Rattle.layout.specs.declared.Run.{Run}
 use Rattle.layout.specs.Runs.{rowIn}
 use Rattle.order_status.specs.declared.Seen.{Seen}
@@ -48,4 +47,4 @@ seenIn d b names q who = seenBy (fault (statusAsked d q who ++ statusUsed d b na
 pub record ShownCall (b : List ℤ) (names : List ℕ) (q : OrderStatus) (who : Who) (r : Shown) : Type 0 where
   pub says : statusSays (r .outcome) ≡ statusAnswer b names q who
   pub within : r .part .from + r .part .count ≤ length b
-  pub shows : partOf (r .part) b ≡ statusLines b names q who
+  pub shows : r .part ≡ statusPart b names q who

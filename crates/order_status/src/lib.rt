@@ -13,8 +13,7 @@ ghost use Rattle.model.specs.Names.{whoOf, whoTests, customerOf, foundNumber};
 ghost use Rattle.model.specs.Lists.{largest};
 ghost use Rattle.model.specs.Used.{districtUsed, ordersUsed, whoUsed};
 ghost use Rattle.model.specs.Answer.{refused, statusSays};
-ghost use Rattle.model.specs.OrderStatus.{statusAsked, lastOrder, orderShown, linesShown};
-ghost use Rattle.model.specs.Request.{partOf};
+ghost use Rattle.model.specs.OrderStatus.{statusAsked, lastOrder, orderShown, emptyPart, partOf, linesPart};
 ghost use Rattle.model.specs.Claim.{R};
 ghost use Rattle.model.proofs.Fields.{Dimensioned, Shaped};
 ghost use Rattle.model.proofs.StatusFacts.{StatusAsked};
@@ -230,7 +229,7 @@ fn figures_of(b: &[i64], d: Dims, q: OrderStatus, c: u64, o: u64) -> StatusFigur
 // Where the lines of an order start in the book, and how many numbers they are; no numbers for order 0.
 fn part_of(b: &[i64], d: Dims, w: u64, k: u64, o: u64) -> Part
     requires { ⌜ Booked d (now b) × (R (d .warehouses) w × (R 10 k × ((o ≤ d .orders) × (o ≢ 0 → R 15 (num (shapes d) (now b) (lineCount d w k o)))))) ⌝ }
-    ensures { λ r. ⌜ (r .from + r .count ≤ length (now (b .entry))) × (partOf r (now (b .entry)) ≡ linesShown d (now (b .entry)) w k o) ⌝ }
+    ensures { λ r. ⌜ (r .from + r .count ≤ length (now (b .entry))) × (r ≡ linesPart d (now (b .entry)) w k o) ⌝ }
 {
     if o == 0 {
         return Part { from: 0, count: 0 };
@@ -244,7 +243,7 @@ fn part_of(b: &[i64], d: Dims, w: u64, k: u64, o: u64) -> Part
 
 // A status that is refused shows nothing.
 fn turned_away(refusal: Refusal) -> Shown
-    ensures { λ r. ⌜ (statusSays (r .outcome) ≡ refused refusal) × (r .part ≡ record { from = 0; count = 0 }) ⌝ }
+    ensures { λ r. ⌜ (statusSays (r .outcome) ≡ refused refusal) × (r .part ≡ emptyPart) ⌝ }
 {
     let outcome = StatusOutcome::Refused(refusal);
     let part = Part { from: 0, count: 0 };
@@ -272,7 +271,7 @@ pub fn status_shown(b: &[i64], names: &[u8], q: OrderStatus, who: Selection, nam
 // The part of the lent book that a status shows.
 fn lines_in<'a>(b: &'a [i64], part: Part) -> &'a [i64]
     requires { ⌜ part .from + part .count ≤ length (now b) ⌝ }
-    ensures { λ r. ⌜ now r ≡ partOf part (now (b .entry)) ⌝ }
+    ensures { λ r. ⌜ (now r ≡ partOf part (now (b .entry))) × (r .ptr ≡ (b .entry .ptr .0, b .entry .ptr .1 + 8 * part .from)) ⌝ }
 {
     let end = part.from + part.count;
     let start = part.from;
@@ -289,7 +288,8 @@ pub fn order_status<'a>(
     who: Selection,
     name: &[u8],
 ) -> StatusAnswer<'a>
-    ensures { λ r. ⌜ StatusCall (now (b .entry)) (now (names .entry)) q (whoOf who (now (name .entry))) (r .outcome) (now (r .lines)) ⌝ }
+    ensures { λ r. ⌜ StatusCall (now (b .entry)) (now (names .entry)) q (whoOf who (now (name .entry)))
+        (r .outcome) (now (r .lines)) (b .entry .ptr) (r .lines .ptr) ⌝ }
 {
     let s = status_shown(b, names, q, who, name);
     let lines = lines_in(b, s.part);

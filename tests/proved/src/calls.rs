@@ -104,6 +104,27 @@ pub(crate) fn who(who: &Who) -> (bool, u64, &[u8]) {
     }
 }
 
+/// What Order-Status leaves in its arrays, the place of the shown part among it. They start out of place, so that what is left unwritten shows.
+pub fn status_out(lent: &Lent, request: &OrderStatus) -> ([u64; 8], i64) {
+    let (named, number, name) = who(&request.who);
+    let mut out = [77; 8];
+    let mut balance = [77; 1];
+    on_book!(
+        book_order_status,
+        lent.nums.as_ptr(),
+        lent,
+        request.warehouse,
+        request.district,
+        named,
+        number,
+        name.as_ptr(),
+        name.len(),
+        out.as_mut_ptr(),
+        balance.as_mut_ptr(),
+    );
+    (out, balance[0])
+}
+
 impl Engine for ProvedEngine {
     fn open(&mut self, lent: &Lent) -> Outcome<()> {
         let mut out = [0; 2];
@@ -172,25 +193,10 @@ impl Engine for ProvedEngine {
     }
 
     fn order_status<'a>(&mut self, lent: &'a Lent, request: &OrderStatus) -> OrderStatusAnswer<'a> {
-        let (named, number, name) = who(&request.who);
-        let mut out = [0; 8];
-        let mut balance = [0; 1];
-        on_book!(
-            book_order_status,
-            lent.nums.as_ptr(),
-            lent,
-            request.warehouse,
-            request.district,
-            named,
-            number,
-            name.as_ptr(),
-            name.len(),
-            out.as_mut_ptr(),
-            balance.as_mut_ptr(),
-        );
+        let (out, balance) = status_out(lent, request);
         let figures = OrderStatusFigures {
             customer: out[2],
-            balance: balance[0],
+            balance,
             order: out[3],
             entry_date: out[4],
             carrier: out[5],

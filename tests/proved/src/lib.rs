@@ -5,4 +5,4 @@
 mod calls;
 mod lines;
 
-pub use calls::ProvedEngine;
+pub use calls::{status_out, ProvedEngine};

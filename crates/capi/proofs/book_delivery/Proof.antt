@@ -1,11 +1,11 @@
 use mathlib.Core.Path.{_∙_, ap}
-use Rattle.capi.specs.Flat.{twoOut}
+use Rattle.flat.specs.Flat.{twoOut}
 use borrow.Author.Needs.{needs}
 use Rattle.capi.proofs.book_delivery.Statement.{statement}
 use Rattle.capi.proofs.book_delivery.Tie as tie
 use Rattle.capi.proofs.book_delivery.Reads as reads
 use Rattle.capi.proofs.book_delivery.Lts as lts
-use Rattle.capi.proofs.delivery_out.Reads as delivery-out-reads
+use Rattle.flat.proofs.delivery_out.Reads as delivery-out-reads
 use Rattle.delivery.proofs.delivery.Reads as delivery-reads
 
 delivery-requires : tie.Need-delivery-requires

@@ -53,12 +53,12 @@ use Rattle.new_order.proofs.new_order as new-order
 use Rattle.new_order.proofs.new_order.Symbol as new-order-def
 use Rattle.new_order.proofs.new_order.Symbol.{name as #new_order·new-order}
 use Rattle.new_order.proofs.new_order.Met as new-order-thm
-use Rattle.capi.specs.Flat.{twoOut, newOrderOf}
+use Rattle.flat.specs.Flat.{twoOut, newOrderOf}
 use Rattle.capi.specs.Calls.{NewOrderC}
-use Rattle.capi.proofs.put_new_order as put
-use Rattle.capi.proofs.put_new_order.Symbol as put-def
-use Rattle.capi.proofs.put_new_order.Symbol.{name as #capi·put-new-order}
-use Rattle.capi.proofs.put_new_order.Met as put-thm
+use Rattle.flat.proofs.put_new_order as put
+use Rattle.flat.proofs.put_new_order.Symbol as put-def
+use Rattle.flat.proofs.put_new_order.Symbol.{name as #flat·put-new-order}
+use Rattle.flat.proofs.put_new_order.Met as put-thm
 use Rattle.capi.proofs.book_new_order.Key.{name as #capi·book-new-order}
 use Rattle.capi.proofs.book_new_order as book
 use Rattle.capi.proofs.book_new_order.Statement as stated
@@ -183,7 +183,7 @@ module _ {M : Type 1} (𝓤 : URA M) (H : Heap 𝓤) (A : Atoms 𝓤) (W : Given
       owned ! u64 (Is u64) (uint-makes 𝓤 H A W w64) k _ (refl, gk) $ fjoin ! $ owned ! u64 (Is u64) (uint-makes 𝓤 H A W w64) w _ (refl, gw) $ fjoin ! $
       move ! (2 ∷ 0 ∷ []) $ fjoin ! $ move ! (1 ∷ 0 ∷ []) $ fjoin ! $ feqI ! (List Val) (vunit ∷ []) (vunit ∷ []) refl $ move ! (1 ∷ 0 ∷ []) $ done !
 
-  module _ (C : Calls 𝓤 H) (Λ : Loops 𝓤 H) (fm : FmC 𝓤 H (W .laws) C) (known-order : Triple 𝓤 (C #new_order·new-order) (Ordered 𝓤 H A mem run)) (known-put : Triple 𝓤 (C #capi·put-new-order) (Put 𝓤 H A mem run)) where
+  module _ (C : Calls 𝓤 H) (Λ : Loops 𝓤 H) (fm : FmC 𝓤 H (W .laws) C) (known-order : Triple 𝓤 (C #new_order·new-order) (Ordered 𝓤 H A mem run)) (known-put : Triple 𝓤 (C #flat·put-new-order) (Put 𝓤 H A mem run)) where
     abbrev passed : List Val
     passed = xv ∷ yv ∷ vint w64 w ∷ vint w64 k ∷ vint w64 c ∷ vint w64 t ∷ sv ∷ zv ∷ []
 
@@ -227,7 +227,7 @@ module _ {M : Type 1} (𝓤 : URA M) (H : Heap 𝓤) (A : Atoms 𝓤) (W : Given
         keep ! (3 ∷ 0 ∷ 4 ∷ 6 ∷ 7 ∷ 1 ∷ []) $ by ! (exits (ns .0) (os .0) (record { answers = e′ ∙ ap twoOut (e .says); leaves = e .leaves }) l)))))))))))))))))))))))))))
 
 module _ {M : Type 1} (𝓤 : URA M) (H : Heap 𝓤) (A : Atoms 𝓤) (W : Given 𝓤 H A) (mem : Memory → SProp 𝓤) (run : Routine → Fun 𝓤) where
-  book-walks : (C : Calls 𝓤 H) (Λ : Loops 𝓤 H) → FmC 𝓤 H (W .laws) C → Triple 𝓤 (C #new_order·new-order) (Ordered 𝓤 H A mem run) → Triple 𝓤 (C #capi·put-new-order) (Put 𝓤 H A mem run)
+  book-walks : (C : Calls 𝓤 H) (Λ : Loops 𝓤 H) → FmC 𝓤 H (W .laws) C → Triple 𝓤 (C #new_order·new-order) (Ordered 𝓤 H A mem run) → Triple 𝓤 (C #flat·put-new-order) (Put 𝓤 H A mem run)
       → Walks 𝓤 H A book.ended stayed (WpFn 𝓤 H C Λ code.function) (book.clauses 𝓤 H A mem run)
   book-walks C Λ fm known-order known-put = walked 𝓤 H A book.ended stayed (book.clauses 𝓤 H A mem run) (WpFn 𝓤 H C Λ code.function)
       (λ κs. (slice-vals, (slice-vals, (uint-vals w64, (uint-vals w64, (uint-vals w64, (uint-vals w64, (slice-vals, (ptr-vals, tt)))))))))
@@ -252,7 +252,7 @@ module _ {M : Type 1} (𝓤 : URA M) (H : Heap 𝓤) (A : Atoms 𝓤) (W : Given
   )
 
 book-meets : {M : Type 1} (𝓤 : URA M) (H : Heap 𝓤) (A : Atoms 𝓤) (W : Given 𝓤 H A) (mem : Memory → SProp 𝓤) (run : Routine → Fun 𝓤) (𝓣 : Tables 𝓤 H)
-    → Triple 𝓤 (𝓣 .C #new_order·new-order) (Ordered 𝓤 H A mem run) → Triple 𝓤 (𝓣 .C #capi·put-new-order) (Put 𝓤 H A mem run)
+    → Triple 𝓤 (𝓣 .C #new_order·new-order) (Ordered 𝓤 H A mem run) → Triple 𝓤 (𝓣 .C #flat·put-new-order) (Put 𝓤 H A mem run)
     → Meets 𝓤 H A book.signature (WpFn 𝓤 H (𝓣 .C) (𝓣 .Λ) code.function) (book.spec 𝓤 H A mem run)
 book-meets 𝓤 H A W mem run 𝓣 known-order known-put = walk-meets 𝓤 H A book.ended stayed W (goes 𝓤 H A W mem run) (book.clauses 𝓤 H A mem run) (WpFn 𝓤 H (𝓣 .C) (𝓣 .Λ) code.function) (WpFn-mono 𝓤 H (W .laws) 𝓣 code.function)
     (book-walks 𝓤 H A W mem run (𝓣 .C) (𝓣 .Λ) (fmOf 𝓤 H (W .laws) 𝓣) known-order known-put)
@@ -264,4 +264,4 @@ book-new-order-spec 𝓤 H 𝓜 𝓖 𝓡 =
     (tables 𝓤 H 𝓜 𝓡 code.env .C) (tables 𝓤 H 𝓜 𝓡 code.env .Λ) #capi·book-new-order code.function (code.unfolded 𝓤 H 𝓜 𝓡)
     (book-meets 𝓤 H (𝓖 .A) (givenOf 𝓤 H 𝓜 𝓖) (𝓜 .mem) (𝓡 .run) (tablesOf 𝓤 H 𝓜 (tables 𝓤 H 𝓜 𝓡 code.env))
     (cited 𝓤 H (Ordered 𝓤 H (𝓖 .A) (𝓜 .mem) (𝓡 .run)) 𝓜 𝓡 code.env #new_order·new-order new-order-def.routine code.calls-new-order·new-order (new-order-thm.met 𝓤 H 𝓜 𝓖 𝓡))
-    (cited 𝓤 H (Put 𝓤 H (𝓖 .A) (𝓜 .mem) (𝓡 .run)) 𝓜 𝓡 code.env #capi·put-new-order put-def.routine code.calls-capi·put-new-order (put-thm.met 𝓤 H 𝓜 𝓖 𝓡)))
+    (cited 𝓤 H (Put 𝓤 H (𝓖 .A) (𝓜 .mem) (𝓡 .run)) 𝓜 𝓡 code.env #flat·put-new-order put-def.routine code.calls-flat·put-new-order (put-thm.met 𝓤 H 𝓜 𝓖 𝓡)))

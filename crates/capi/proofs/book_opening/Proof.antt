@@ -1,11 +1,11 @@
 use mathlib.Core.Path.{_∙_, ap}
-use Rattle.capi.specs.Flat.{bareOut}
+use Rattle.flat.specs.Flat.{bareOut}
 use borrow.Author.Needs.{needs}
 use Rattle.capi.proofs.book_opening.Statement.{statement}
 use Rattle.capi.proofs.book_opening.Tie as tie
 use Rattle.capi.proofs.book_opening.Reads as reads
 use Rattle.capi.proofs.book_opening.Lts as lts
-use Rattle.capi.proofs.opening_out.Reads as opening-out-reads
+use Rattle.flat.proofs.opening_out.Reads as opening-out-reads
 use Rattle.opening.proofs.opening.Reads as opening-reads
 
 opening-requires : tie.Need-opening-requires

@@ -1,17 +1,13 @@
 use mathlib.Core.Path.{_∙_, ap}
-use mathlib.Core.List.{List}
-use Prim.Native.Nat.{ℕ}
-use lib.ListN.{take}
-use Rattle.model.specs.Answer.{Answer}
-use Rattle.capi.specs.Flat.{statusOut, balanceOut}
+use Rattle.flat.specs.Flat.{balanceOut}
 use borrow.Author.Needs.{needs}
 use Rattle.capi.proofs.book_order_status.Statement.{statement}
 use Rattle.capi.proofs.book_order_status.Tie as tie
 use Rattle.capi.proofs.book_order_status.Reads as reads
 use Rattle.capi.proofs.book_order_status.Lts as lts
-use Rattle.capi.proofs.selection.Reads as selection-reads
-use Rattle.capi.proofs.status_balance.Reads as status-balance-reads
-use Rattle.capi.proofs.status_out.Reads as status-out-reads
+use Rattle.flat.proofs.selection.Reads as selection-reads
+use Rattle.flat.proofs.status_balance.Reads as status-balance-reads
+use Rattle.flat.proofs.status_out.Reads as status-out-reads
 use Rattle.order_status.proofs.status_shown.Reads as status-shown-reads
 
 selection-requires : tie.Need-selection-requires
@@ -29,10 +25,9 @@ status-balance-requires c κs = search needs
 returns : tie.Need-returns
 returns c =
     rw (← c .before .before .before .before .selection .ensures) (record {
-      answers = ap (λ (l : List ℕ). take 6 l) (c .before .status-out .ensures) ∙ ap (λ (a : Answer). take 6 (statusOut a 0 0)) (c .before .before .before .status-shown .ensures .says);
+      answers = rw (c .before .status-out .ensures, ← c .before .before .before .status-shown .ensures .says, ← c .before .before .before .status-shown .ensures .shows);
       balances = c .status-balance .ensures ∙ ap balanceOut (c .before .before .before .status-shown .ensures .says);
       within = rw (c .before .status-out .ensures) (c .before .before .before .status-shown .ensures .within);
-      shows = rw (c .before .status-out .ensures) (c .before .before .before .status-shown .ensures .shows);
     })
 
 pub book-order-status-spec : {M : Type 1} → statement M

@@ -1,13 +1,13 @@
 use mathlib.Core.Path.{_∙_, ap}
-use Rattle.capi.specs.Flat.{oneOut, balanceOut}
+use Rattle.flat.specs.Flat.{oneOut, balanceOut}
 use borrow.Author.Needs.{needs}
 use Rattle.capi.proofs.book_payment.Statement.{statement}
 use Rattle.capi.proofs.book_payment.Tie as tie
 use Rattle.capi.proofs.book_payment.Reads as reads
 use Rattle.capi.proofs.book_payment.Lts as lts
-use Rattle.capi.proofs.payment_balance.Reads as payment-balance-reads
-use Rattle.capi.proofs.payment_out.Reads as payment-out-reads
-use Rattle.capi.proofs.selection.Reads as selection-reads
+use Rattle.flat.proofs.payment_balance.Reads as payment-balance-reads
+use Rattle.flat.proofs.payment_out.Reads as payment-out-reads
+use Rattle.flat.proofs.selection.Reads as selection-reads
 use Rattle.payment.proofs.payment.Reads as payment-reads
 
 selection-requires : tie.Need-selection-requires

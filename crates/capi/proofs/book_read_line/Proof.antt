@@ -4,7 +4,7 @@ use Rattle.capi.proofs.book_read_line.Statement.{statement}
 use Rattle.capi.proofs.book_read_line.Tie as tie
 use Rattle.capi.proofs.book_read_line.Reads as reads
 use Rattle.capi.proofs.book_read_line.Lts as lts
-use Rattle.capi.proofs.read_out.Reads as read-out-reads
+use Rattle.flat.proofs.read_out.Reads as read-out-reads
 use Rattle.lines.proofs.read_line.Reads as read-line-reads
 
 read-line-requires : tie.Need-read-line-requires

@@ -1,11 +1,11 @@
 use mathlib.Core.Path.{_∙_, ap}
-use Rattle.capi.specs.Flat.{oneOut}
+use Rattle.flat.specs.Flat.{oneOut}
 use borrow.Author.Needs.{needs}
 use Rattle.capi.proofs.book_stock_level.Statement.{statement}
 use Rattle.capi.proofs.book_stock_level.Tie as tie
 use Rattle.capi.proofs.book_stock_level.Reads as reads
 use Rattle.capi.proofs.book_stock_level.Lts as lts
-use Rattle.capi.proofs.stock_level_out.Reads as stock-level-out-reads
+use Rattle.flat.proofs.stock_level_out.Reads as stock-level-out-reads
 use Rattle.stock_level.proofs.stock_level.Reads as stock-level-reads
 
 stock-level-requires : tie.Need-stock-level-requires

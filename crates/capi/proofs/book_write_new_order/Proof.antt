@@ -1,11 +1,11 @@
 use mathlib.Core.Path.{_∙_, ap}
-use Rattle.capi.specs.Flat.{oneOut}
+use Rattle.flat.specs.Flat.{oneOut}
 use borrow.Author.Needs.{needs}
 use Rattle.capi.proofs.book_write_new_order.Statement.{statement}
 use Rattle.capi.proofs.book_write_new_order.Tie as tie
 use Rattle.capi.proofs.book_write_new_order.Reads as reads
 use Rattle.capi.proofs.book_write_new_order.Lts as lts
-use Rattle.capi.proofs.write_out.Reads as write-out-reads
+use Rattle.flat.proofs.write_out.Reads as write-out-reads
 use Rattle.writing.proofs.write_line.Reads as write-line-reads
 
 sub-write-line : tie.Need-sub-write-line

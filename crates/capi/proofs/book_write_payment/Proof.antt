@@ -3,7 +3,7 @@ use Rattle.capi.proofs.book_write_payment.Statement.{statement}
 use Rattle.capi.proofs.book_write_payment.Tie as tie
 use Rattle.capi.proofs.book_write_payment.Reads as reads
 use Rattle.capi.proofs.book_write_payment.Lts as lts
-use Rattle.capi.proofs.selection.Reads as selection-reads
+use Rattle.flat.proofs.selection.Reads as selection-reads
 use Rattle.capi.proofs.write_bare.Reads as write-bare-reads
 
 selection-requires : tie.Need-selection-requires

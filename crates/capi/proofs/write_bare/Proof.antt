@@ -1,12 +1,12 @@
 use mathlib.Core.Path.{_∙_, ap}
-use Rattle.capi.specs.Flat.{oneOut}
+use Rattle.flat.specs.Flat.{oneOut}
 use Rattle.model.specs.Request.{linesOf}
 use borrow.Author.Needs.{needs}
 use Rattle.capi.proofs.write_bare.Statement.{statement}
 use Rattle.capi.proofs.write_bare.Tie as tie
 use Rattle.capi.proofs.write_bare.Reads as reads
 use Rattle.capi.proofs.write_bare.Lts as lts
-use Rattle.capi.proofs.write_out.Reads as write-out-reads
+use Rattle.flat.proofs.write_out.Reads as write-out-reads
 use Rattle.writing.proofs.write_line.Reads as write-line-reads
 
 sub-empty : tie.Need-sub-empty

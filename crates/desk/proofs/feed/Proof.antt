@@ -11,7 +11,7 @@ use Rattle.desk.proofs.feed.Statement.{statement}
 use Rattle.desk.proofs.feed.Tie as tie
 use Rattle.desk.proofs.feed.Reads as reads
 use Rattle.desk.proofs.feed.Lts as lts
-use Rattle.desk.proofs.cut.Reads as cut-reads
+use Rattle.blocks.proofs.cut.Reads as cut-reads
 use Rattle.desk.proofs.step.Reads as step-reads
 use Rattle.io.proofs.write_all.Reads as write-all-reads
 

@@ -1,6 +1,7 @@
 use lib.ListN.{length}
+use Rattle.model.specs.Request.{lent}
 use Rattle.desk.proofs.Telling.{written-part}
-use Prim.Native.Nat.{_≤_}
+use Rattle.desk.proofs.Blocks.{left-line, ServedUpTo, none-served, block-served, input-served, last-served}
 use mathlib.Core.Path.{_≡_}
 use borrow.Author.Needs.{needs}
 use Rattle.desk.proofs.serve.Statement.{statement}
@@ -14,13 +15,14 @@ use Rattle.io.proofs.write_all.Reads as write-all-reads
 use Rattle.libc.proofs.read.Reads as read-reads
 
 abbrev Inv-loop : tie.InvT-loop
-Inv-loop b₀ names block₀ line₀ len₀ turns₀ b block line len turns = (length b ≡ length b₀) × ((length block ≡ 4096) × ((length line ≡ 1024) × (len ≤ 1024)))
+Inv-loop b₀ names block₀ line₀ len₀ turns₀ b block line len turns = (length b ≡ length b₀) × ((length block ≡ 4096) × ServedUpTo (lent b₀ names) (lent b names) line len)
 
 abbrev μ-loop : tie.MeasureT-loop
 μ-loop b₀ names block₀ line₀ len₀ turns₀ b block line len turns = turns
 
 loop-holds : tie.Need-loop-holds Inv-loop μ-loop
-loop-holds c = search needs
+loop-holds c =
+    (search needs, (search needs, none-served _ _ (search needs)))
 
 slice-aggregate-read : tie.Need-slice-aggregate-read Inv-loop μ-loop
 slice-aggregate-read c = search needs
@@ -66,13 +68,15 @@ same-length : tie.Need-same-length Inv-loop μ-loop
 same-length c = search needs
 
 returns : tie.Need-returns Inv-loop μ-loop
-returns c = search needs
+returns c =
+    last-served _ _ _ _ (c .before .before .before .before .before .before .before .before .before .before .before .before .before .before .before .before .before .before .loop .inv .1 .1) _ (left-line _ _ _ (c .before .before .before .before .before .before .before .before .before .before .before .before .before .before .before .before .before .before .loop .line) _ _ (c .before .before .before .before .before .before .before .before .before .before .before .before .before .before .before .before .before .before .loop .len) _ (search needs) (c .before .before .before .before .before .step .ensures))
 
 same-length-2 : tie.Need-same-length-2 Inv-loop μ-loop
 same-length-2 c = search needs
 
 returns-2 : tie.Need-returns-2 Inv-loop μ-loop
-returns-2 c = search needs
+returns-2 c =
+    input-served _ _ _ _ (c .before .before .before .before .before .before .before .before .loop .inv .1 .1)
 
 slice-aggregate-feed : tie.Need-slice-aggregate-feed Inv-loop μ-loop
 slice-aggregate-feed c = search needs
@@ -93,7 +97,8 @@ same-length-3 : tie.Need-same-length-3 Inv-loop μ-loop
 same-length-3 c = search needs
 
 returns-3 : tie.Need-returns-3 Inv-loop μ-loop
-returns-3 c = search needs
+returns-3 c =
+    input-served _ _ _ _ (block-served _ _ _ _ _ _ _ _ _ _ _ (c .before .before .before .before .before .before .before .before .before .before .before .before .before .before .before .loop .inv .1 .1) (c .before .before .before .feed .ensures) (search needs))
 
 sub-turns : tie.Need-sub-turns Inv-loop μ-loop
 sub-turns c = search needs
@@ -103,13 +108,14 @@ loop-less c = search needs
 
 loop-again : tie.Need-loop-again Inv-loop μ-loop
 loop-again c =
-    (search needs, (search needs, (search needs, c .before .before .before .feed .ensures .short)))
+    (search needs, (search needs, block-served _ _ _ _ _ _ _ _ _ _ _ (c .before .before .before .before .before .before .before .before .before .before .before .before .before .before .before .loop .inv .1 .1) (c .before .before .before .feed .ensures) (search needs)))
 
 same-length-4 : tie.Need-same-length-4 Inv-loop μ-loop
 same-length-4 c = search needs
 
 returns-4 : tie.Need-returns-4 Inv-loop μ-loop
-returns-4 c = search needs
+returns-4 c =
+    input-served _ _ _ _ (c .before .loop .inv .1 .1)
 
 pub serve-spec : {M : Type 1} → statement M
 serve-spec =

@@ -1,5 +1,5 @@
 use mathlib.Core.Path.{refl}
-use Rattle.model.specs.Request.{answerOf, ordersOf, shownOf, numsAfter}
+use Rattle.model.specs.Request.{answerOf, ordersOf, shownPart, numsAfter}
 use borrow.Author.Needs.{needs}
 use Rattle.engine.proofs.payment.Statement.{statement}
 use Rattle.engine.proofs.payment.Tie as tie
@@ -14,7 +14,7 @@ same-length : tie.Need-same-length
 same-length c = search needs
 
 returns : tie.Need-returns
-unfolding answerOf ordersOf shownOf numsAfter
+unfolding answerOf ordersOf shownPart numsAfter
 returns c =
     record { kind = refl; says = c .before .payment .ensures .says; orders = refl; within = search needs; shows = refl; leaves = c .before .payment .ensures .leaves }
 

@@ -1,5 +1,5 @@
 use mathlib.Core.Path.{refl}
-use Rattle.model.specs.Request.{answerOf, ordersOf, shownOf, numsAfter}
+use Rattle.model.specs.Request.{answerOf, ordersOf, shownPart, numsAfter}
 use borrow.Author.Needs.{needs}
 use Rattle.engine.proofs.stock_level.Statement.{statement}
 use Rattle.engine.proofs.stock_level.Tie as tie
@@ -11,7 +11,7 @@ stock-level-requires : tie.Need-stock-level-requires
 stock-level-requires c κs = search needs
 
 returns : tie.Need-returns
-unfolding answerOf ordersOf shownOf numsAfter
+unfolding answerOf ordersOf shownPart numsAfter
 returns c =
     record { kind = refl; says = c .stock-level .ensures .says; orders = refl; within = search needs; shows = refl; leaves = refl }
 

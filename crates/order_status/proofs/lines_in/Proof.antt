@@ -1,6 +1,6 @@
 use native.Mathlib.Omega.{arith}
-use Prim.Native.Nat.{_+_, _-_}
-use mathlib.Core.Path.{_≡_}
+use Prim.Native.Nat.{ℕ, _+_, _-_, _*_}
+use mathlib.Core.Path.{_≡_, ap}
 use borrow.Author.Needs.{needs}
 use Rattle.order_status.proofs.lines_in.Statement.{statement}
 use Rattle.order_status.proofs.lines_in.Tie as tie
@@ -24,7 +24,9 @@ part-result-end c = search needs
 
 returns : tie.Need-returns
 returns c =
-    let e : c .before .before .args .part .from + c .before .before .args .part .count - c .before .before .args .part .from ≡ c .before .before .args .part .count = omega arith in rw e
+    let e : c .before .before .args .part .from + c .before .before .args .part .count - c .before .before .args .part .from ≡ c .before .before .args .part .count = omega arith in
+    let o : c .before .before .args .part .from * 8 + c .before .before .args .b .ptr .1 ≡ c .before .before .args .b .ptr .1 + 8 * c .before .before .args .part .from = omega arith in
+    (rw e, ap (λ (k : ℕ). (c .before .before .args .b .ptr .0, k)) o)
 
 pub lines-in-spec : {M : Type 1} → statement M
 lines-in-spec =

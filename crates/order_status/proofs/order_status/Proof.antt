@@ -2,7 +2,7 @@
 -- answered, and a struct is made of the outcome and of the part. A shared slice is Copy: one copy of what it owns goes to each call, one is kept for the exit.
 -- Assumes nothing.
 use mathlib.Core.Path.{_≡_, refl, ap, _∙_}
-use Prim.Native.Nat.{ℕ, _+_, _≤_}
+use Prim.Native.Nat.{ℕ, _+_, _*_, _≤_}
 use mathlib.Core.List.{List, [], _∷_}
 use lib.ListN.{length}
 use lib.IntN.{ℤ}
@@ -48,7 +48,7 @@ use Rattle.model.specs.declared.StatusOutcome.{StatusOutcome}
 use Rattle.model.specs.Names.{whoOf}
 use Rattle.model.specs.Contracts.{StatusCall}
 use Rattle.order_status.specs.Seen.{ShownCall}
-use Rattle.model.specs.Request.{partOf}
+use Rattle.model.specs.OrderStatus.{partOf, statusLines}
 use Rattle.model.proofs.OrderStatus as Q
 use Rattle.model.proofs.OrderStatus.Laws as Q′
 use Rattle.model.proofs.Selection as E
@@ -181,6 +181,10 @@ module _ {M : Type 1} (𝓤 : URA M) (H : Heap 𝓤) (A : Atoms 𝓤) (W : Given
   abbrev Says : Shown → Type 0
   Says r = ShownCall (b .now) (n .now) t (whoOf w (m .now)) r
 
+  -- what `lines_in` says
+  abbrev Cut : Shown → RefT (List ℤ) → Type 0
+  Cut r y = (now y ≡ partOf (r .part) (b .now)) × (y .ptr ≡ (b .ptr .0, b .ptr .1 + 8 * r .part .from))
+
   abbrev to-shown : Finds 𝓤 H A mem run .Ghost
   to-shown = ((κs, qs, tt, a, at), tt)
 
@@ -202,15 +206,15 @@ module _ {M : Type 1} (𝓤 : URA M) (H : Heap 𝓤) (A : Atoms 𝓤) (W : Given
       qed W (‵ (flft κ q) ∷ ‵ (Shr b (slv b)) ∷ []) ∵ says ! within $ nothing ! $ owned ! P.the-row (Is P.the-row) (LL.makes P.the-type P′.the-plain 𝓤 H A) (r .part) _ is $ fjoin ! $
       move ! (2 ∷ 0 ∷ []) $ fjoin ! $ nothing ! $ move ! (2 ∷ 0 ∷ []) $ join ! $ frame ! $ done !
 
-  lines-said : (r : Shown) (y : RefT (List ℤ)) → ent 𝓤 (ensured 𝓤 H A lines.ended (lines.clauses 𝓤 H A mem run) (κ, tt) (b, (r .part, tt)) tt y) (fact 𝓤 (now y ≡ partOf (r .part) (b .now)))
-  lines-said r y = exE 𝓤 _ (λ ws. snd∗ 𝓤 (sem 𝓤 H A (lasts lines.ended (κ, tt) (b, (r .part, tt)) ws)) (fact 𝓤 (now y ≡ partOf (r .part) (b .now))))
+  lines-said : (r : Shown) (y : RefT (List ℤ)) → ent 𝓤 (ensured 𝓤 H A lines.ended (lines.clauses 𝓤 H A mem run) (κ, tt) (b, (r .part, tt)) tt y) (fact 𝓤 (Cut r y))
+  lines-said r y = exE 𝓤 _ (λ ws. snd∗ 𝓤 (sem 𝓤 H A (lasts lines.ended (κ, tt) (b, (r .part, tt)) ws)) (fact 𝓤 (Cut r y)))
 
   y-spelled : (y : RefT (List ℤ)) (x : Val) → Is (ShrSlice (named 0) κ i64) y (x ∷ []) → x ≡ slv y
   unfolding hd
   y-spelled y x is = ap hd (shr-slice-tells (named 0) κ i64 y (x ∷ []) is)
 
   exits : (r : Shown) (y : RefT (List ℤ)) → Is O.the-row (r .outcome) (ovals (r .outcome))
-      → StatusCall (b .now) (n .now) t (whoOf w (m .now)) (r .outcome) (now y)
+      → StatusCall (b .now) (n .now) t (whoOf w (m .now)) (r .outcome) (now y) (b .ptr) (y .ptr)
       → ent 𝓤 (⋆ 𝓤 H A ((‵ (flft κ q) ⊛ ‵ ftrue) ∷ Others ∷ ‵ (Shr b (slv b)) ∷ ‵ Names ∷ ‵ Name ∷ ‵ (Shr y (slv y)) ∷ [])) (Post (tval r y))
   exits r y is e =
       qed W ((‵ (flft κ q) ⊛ ‵ ftrue) ∷ Others ∷ ‵ (Shr b (slv b)) ∷ ‵ Names ∷ ‵ Name ∷ ‵ (Shr y (slv y)) ∷ []) ∵
@@ -220,6 +224,12 @@ module _ {M : Type 1} (𝓤 : URA M) (H : Heap 𝓤) (A : Atoms 𝓤) (W : Given
       move ! (3 ∷ 0 ∷ []) $ fjoin ! $ owned ! E.the-row (Is E.the-row) (EL.makes E.the-type E′.the-plain 𝓤 H A) w _ gw $ fjoin ! $ owned ! Q.the-row (Is Q.the-row) (LL.makes Q.the-type Q′.the-plain 𝓤 H A) t _ gt $ fjoin ! $
       move ! (2 ∷ 0 ∷ []) $ fjoin ! $ move ! (1 ∷ 0 ∷ []) $ fjoin ! $ frame ! $
       nothing ! $ move ! (1 ∷ 0 ∷ []) $ fjoin ! $ owned ! O.the-row (Is O.the-row) (EL.makes O.the-type O′.the-plain 𝓤 H A) (r .outcome) _ is $ fjoin ! $ by ! (own-shut 𝓤 H A W (T.the-type α) (T′.the-laws α) (r .outcome, (y, tt)))
+
+  -- the lines are those of the part, and lie in the book
+  lines-shown : (r : Shown) (y : RefT (List ℤ)) → Says r → Cut r y → StatusCall (b .now) (n .now) t (whoOf w (m .now)) (r .outcome) (now y) (b .ptr) (y .ptr)
+  unfolding statusLines
+  lines-shown r y e c =
+      record { says = e .says; shows = c .0 ∙ ap (λ (p : Part). partOf p (b .now)) (e .shows); lies = c .1 ∙ ap (λ (p : Part). (b .ptr .0, b .ptr .1 + 8 * p .from)) (e .shows) }
 
   -- what the struct's own relation asks
   made-is : (r : Shown) (y : RefT (List ℤ)) → Is O.the-row (r .outcome) (ovals (r .outcome)) → Is (ShrSlice (named 0) κ i64) y (slv y ∷ []) → Is (T.the-row α) (made r y) (tval r y ∷ [])
@@ -253,7 +263,7 @@ module _ {M : Type 1} (𝓤 : URA M) (H : Heap 𝓤) (A : Atoms 𝓤) (W : Given
         -- [what `lines_in` asks; the book; the other tokens; names; name; _8; …; _7; …; _6; …; _5; …; _4; …; _3; …; _2; …; _1; …; room for _0; …]
         calls-at ! fm (Cuts 𝓤 H A mem run) known-lines (to-lines r) (and-then ! (load ! (from ! (stop !)) (look ! 19 refl)) (and-then ! (load ! (from ! (fld ! refl (stop !))) (look-in ! 9 (sub ! 1 refl (whole !)))) (no-more !))) (λ x.
         use1 W (later (some (λ (y : RefT (List ℤ)). ((‵ (flft κ q) ⊛ ‵ ftrue) ⊛ ‵ (Shr y x)) ⊛ raw (ensured 𝓤 H A lines.ended (lines.clauses 𝓤 H A mem run) (κ, tt) (b, (r .part, tt)) tt y)))) (id⊢ 𝓤 _) $ await ! tt $ pick ! (λ y.
-        split ! $ move ! (1 ∷ []) $ use1 W (raw (fact 𝓤 (now y ≡ partOf (r .part) (b .now)))) (lines-said r y) $ heard ! (now y ≡ partOf (r .part) (b .now)) (λ e′. split ! $ move ! (1 ∷ []) $
+        split ! $ move ! (1 ∷ []) $ use1 W (raw (fact 𝓤 (Cut r y))) (lines-said r y) $ heard ! (Cut r y) (λ e′. split ! $ move ! (1 ∷ []) $
         peeks ! (ShrSlice (named 0) κ i64) (Is (ShrSlice (named 0) κ i64)) (shows 𝓤 H A (ShrSlice (named 0) κ i64)) y (x ∷ []) (λ is′.
         land ! (from ! (stop !)) (init ! 8 refl (shr-slice-lawful 𝓤 H A W erased κ i64 .typed y (x ∷ []) is′ .0)) $
         rewrite ! 8 (λ (z : Val). ‵ (fat fullShare (sliceTy (tyRef erased imm (tyInt w64))) l₇ 0 z)) (y-spelled y x is′) refl $ rewrite ! 0 (λ (z : Val). ‵ (Shr y z)) (y-spelled y x is′) refl $
@@ -264,7 +274,7 @@ module _ {M : Type 1} (𝓤 : URA M) (H : Heap 𝓤) (A : Atoms 𝓤) (W : Given
         returns ! (look ! 22 refl) $ forget ! 6 refl $ forget ! 8 refl $ forget ! 10 refl $ forget ! 12 refl $ forget ! 14 refl $ forget ! 16 refl $ forget ! 18 refl $ forget ! 20 refl $ forget ! 22 refl $
         move ! (22 ∷ 23 ∷ []) $ free1 ! $ move ! (20 ∷ 21 ∷ []) $ free1 ! $ move ! (18 ∷ 19 ∷ []) $ free1 ! $ move ! (16 ∷ 17 ∷ []) $ free1 ! $ move ! (14 ∷ 15 ∷ []) $ free1 ! $
         move ! (12 ∷ 13 ∷ []) $ free1 ! $ move ! (10 ∷ 11 ∷ []) $ free1 ! $ move ! (8 ∷ 9 ∷ []) $ free1 ! $ move ! (6 ∷ 7 ∷ []) $ free1 ! $ free0 ! $
-        keep ! (1 ∷ 3 ∷ 2 ∷ 4 ∷ 5 ∷ 0 ∷ []) $ by ! (exits r y (outcome-is r u is) (record { says = e .says; shows = e′ ∙ e .shows }))))))))))))))))))))
+        keep ! (1 ∷ 3 ∷ 2 ∷ 4 ∷ 5 ∷ 0 ∷ []) $ by ! (exits r y (outcome-is r u is) (lines-shown r y e e′))))))))))))))))))))
 
 module _ {M : Type 1} (𝓤 : URA M) (H : Heap 𝓤) (A : Atoms 𝓤) (W : Given 𝓤 H A) (mem : Memory → SProp 𝓤) (run : Routine → Fun 𝓤) where
   status-walks : (C : Calls 𝓤 H) (Λ : Loops 𝓤 H) → FmC 𝓤 H (W .laws) C → Triple 𝓤 (C #shown) (Finds 𝓤 H A mem run) → Triple 𝓤 (C #lines) (Cuts 𝓤 H A mem run)

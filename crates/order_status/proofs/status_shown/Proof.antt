@@ -1,5 +1,5 @@
 use lib.ListN.{length}
-use Rattle.order_status.proofs.Stages.{whole, turned-call, refusal-is, ready, order-high, shown-customer, shown-answer, shown-order, shown-lines}
+use Rattle.order_status.proofs.Stages.{whole, turned-call, refusal-is, ready, order-high, shown-customer, shown-answer, shown-order, shown-part}
 use Rattle.rows.proofs.RowTests.{shaped-booked}
 use Rattle.layout.proofs.Heads.{head-read, head-damaged}
 use Rattle.model.proofs.TestLaws.{staged-head}
@@ -68,7 +68,7 @@ returns-2 c =
     record {
       says = rw (c .before .figures-of .ensures .0, c .before .figures-of .ensures .1 .0, c .before .figures-of .ensures .1 .1, v .same) (shown-answer _ _ _ _ e (c .before .before .if1 .taken));
       within = c .part-of .ensures .0;
-      shows = c .part-of .ensures .1 ∙ rw (v .same) (shown-lines _ _ _ _ e (c .before .before .if1 .taken));
+      shows = c .part-of .ensures .1 ∙ rw (v .same) (shown-part _ _ _ _ e (c .before .before .if1 .taken));
     }
 
 turned-away-requires-2 : tie.Need-turned-away-requires-2

@@ -1,0 +1,2 @@
+-- Laws of the crate's code.
+pub mod Bytes

@@ -1,0 +1,127 @@
+//! Both engines at the upper end of each dimension of the head, and one above it, on books that opening accepts but for that.
+//!
+//! The ends, the lengths and the answers are written out here from document 01; all other dimensions are 1.
+
+use proved::ProvedEngine;
+use second::replay::{print, Engine, Lent, SecondEngine};
+use second::{Delivery, Line, NewOrder, OrderStatus, Payment, Request, StockLevel, Who};
+
+/// W, C, I, O and H.
+type Head = [usize; 5];
+
+#[test]
+fn warehouses_up_to_20() {
+    both_sides([20, 1, 1, 1, 1], [21, 1, 1, 1, 1]);
+}
+
+#[test]
+fn customers_up_to_3_000() {
+    both_sides([1, 3_000, 1, 1, 1], [1, 3_001, 1, 1, 1]);
+}
+
+#[test]
+fn items_up_to_100_000() {
+    both_sides([1, 1, 100_000, 1, 1], [1, 1, 100_001, 1, 1]);
+}
+
+#[test]
+fn order_slots_up_to_10_000() {
+    both_sides([1, 1, 1, 10_000, 1], [1, 1, 1, 10_001, 1]);
+}
+
+#[test]
+fn history_slots_up_to_1_000_000() {
+    both_sides([1, 1, 1, 1, 1_000_000], [1, 1, 1, 1, 1_000_001]);
+}
+
+/// Committed at the limit; refused by 2 where a length is one off, and above the limit.
+fn both_sides(limit: Head, above: Head) {
+    committed(limit, &book(limit));
+    for numbers in [-1, 1] {
+        refused(limit, &off(book(limit), numbers, 0));
+    }
+    for name_bytes in [-1, 1] {
+        refused(limit, &off(book(limit), 0, name_bytes));
+    }
+    refused(above, &book(above));
+}
+
+/// Opening and the five calls are committed with these figures, and both engines leave the same numbers.
+fn committed(head: Head, lent: &Lent) {
+    let [w, c, i, ..] = head;
+    let said = [
+        "OPEN 0".to_string(),
+        "N 0 1 750".to_string(),
+        format!("P 0 {c} -500"),
+        "D 0 9 511 0 0 0 0 0 0 0 0 0 1".to_string(),
+        format!("S 0 {c} 250 1 100 3 {i} {w} 3 750 200"),
+        "L 0 1".to_string(),
+    ];
+    let (mut proved, mut second) = (lent.clone(), lent.clone());
+    assert_eq!(answers(&mut ProvedEngine, &mut proved, head), said, "the proved library, {head:?}");
+    assert_eq!(answers(&mut SecondEngine, &mut second, head), said, "the second engine, {head:?}");
+    assert!(proved == second, "{head:?}: the books differ");
+}
+
+/// Opening and the five calls are refused by 2 and change nothing.
+fn refused(head: Head, lent: &Lent) {
+    let said = ["OPEN 2 0", "N 2 0", "P 2 0", "D 2 0", "S 2 0", "L 2 0"];
+    let lengths = (lent.nums.len(), lent.names.len());
+    let mut left = lent.clone();
+    assert_eq!(answers(&mut ProvedEngine, &mut left, head), said, "the proved library, {head:?}, {lengths:?}");
+    assert_eq!(answers(&mut SecondEngine, &mut left, head), said, "the second engine, {head:?}, {lengths:?}");
+    assert!(left == *lent, "{head:?}, {lengths:?}: changed by a refused call");
+}
+
+/// Opening and one call of each kind, on the last warehouse, district, customer and item.
+fn answers(engine: &mut impl Engine, lent: &mut Lent, head: Head) -> Vec<String> {
+    let mut said = vec![print::open(engine.open(lent))];
+    said.extend(requests(head).iter().map(|request| print::call(engine, lent, request)));
+    said
+}
+
+fn requests(head: Head) -> [Request; 5] {
+    let [w, c, i, ..] = head.map(|n| n as u64);
+    [
+        Request::NewOrder(NewOrder {
+            warehouse: w,
+            district: 10,
+            customer: c,
+            date: 100,
+            lines: vec![Line { item: i, supply_warehouse: w, quantity: 3 }],
+        }),
+        Request::Payment(Payment {
+            warehouse: w,
+            district: 10,
+            customer_warehouse: w,
+            customer_district: 10,
+            who: Who::Number(c),
+            date: 100,
+            amount: 500,
+        }),
+        Request::Delivery(Delivery { warehouse: w, carrier: 3, date: 200 }),
+        Request::OrderStatus(OrderStatus { warehouse: w, district: 10, who: Who::Number(c) }),
+        Request::StockLevel(StockLevel { warehouse: w, district: 10, threshold: 20 }),
+    ]
+}
+
+/// A book as opening wants it, with the lengths that its head implies: every price 250, 20 of each item on hand, no taxes or discounts.
+fn book(head: Head) -> Lent {
+    let [w, c, i, o, h] = head;
+    let mut nums: Vec<i64> = head.iter().map(|&n| n as i64).collect();
+    nums.push(0);
+    nums.extend([0, 0].repeat(w));
+    nums.extend([0, 0, 1].repeat(10 * w));
+    nums.extend([0; 6].repeat(10 * w * c));
+    nums.extend([250].repeat(i));
+    nums.extend([20, 0, 0, 0].repeat(w * i));
+    nums.resize(nums.len() + 81 * 10 * w * o + 7 * h, 0);
+    Lent { nums, names: vec![b'A'; 32 * 10 * w * c] }
+}
+
+/// The book with that many more numbers and name bytes.
+fn off(mut lent: Lent, numbers: isize, name_bytes: isize) -> Lent {
+    lent.nums.resize(lent.nums.len().wrapping_add_signed(numbers), 0);
+    lent.names.resize(lent.names.len().wrapping_add_signed(name_bytes), b'A');
+    lent
+}
