@@ -96,7 +96,7 @@ fn fill_names(names: &mut [u8])
 }
 
 // One request line in, one answer out to a buffer of at least 2,048 bytes: its length, or 0 where there is no room and nothing is done.
-pub fn step(b: &mut [i64], names: &[u8], line: &[u8], out: &mut [u8]) -> usize
+fn step(b: &mut [i64], names: &[u8], line: &[u8], out: &mut [u8]) -> usize
     ensures { λ r. ⌜ Stepped
         (lent (now (b .entry)) (now (names .entry))) (now (line .entry)) (now (out .entry)) (now (out .exit)) r
         (lent (now (b .exit)) (now (names .entry))) ⌝ }
