@@ -44,14 +44,12 @@ void book_stock_level(const int64_t *nums, size_t nums_len, const uint8_t *names
 /* A request line read, with its byte 10. out: number, detail, the letter N, P, D, S or L, six numbers (the request's but who, in the line's order,
    0 beyond them), 1 where who is a last name, the customer number, how many lines the order has, how many bytes the name; a line without a form is
    refused by 1. What is no part of the request is 0, in the arrays as well. */
-void book_read_line(const uint8_t *line, size_t line_len, uint64_t out[13], uint64_t items[15], uint64_t supplies[15], uint64_t quantities[15],
-                    uint8_t name[16]);
+void book_read_line(const uint8_t *line, size_t line_len, uint64_t out[13], struct book_line lines[15], uint8_t name[16]);
 
 /* A request's line written to the front of a buffer, the bytes beyond it left. out: number, detail, length; a request without a form, or a buffer
-   shorter than the line, is refused by 1. The parameters are those of the call; line i of an order is items[i], supplies[i], quantities[i]. */
+   shorter than the line, is refused by 1. The parameters are those of the call. */
 void book_write_new_order(uint8_t *buffer, size_t buffer_len, uint64_t warehouse, uint64_t district, uint64_t customer, uint64_t date,
-                          const uint64_t *items, size_t items_len, const uint64_t *supplies, size_t supplies_len, const uint64_t *quantities,
-                          size_t quantities_len, uint64_t out[3]);
+                          const struct book_line *lines, size_t lines_len, uint64_t out[3]);
 void book_write_payment(uint8_t *buffer, size_t buffer_len, uint64_t warehouse, uint64_t district, uint64_t custwarehouse, uint64_t custdistrict,
                         bool named, uint64_t number, const uint8_t *name, size_t name_len, uint64_t date, uint64_t amount, uint64_t out[3]);
 void book_write_delivery(uint8_t *buffer, size_t buffer_len, uint64_t warehouse, uint64_t carrier, uint64_t date, uint64_t out[3]);

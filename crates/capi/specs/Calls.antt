@@ -20,7 +20,7 @@ use Rattle.model.specs.Payment.{paymentAnswer, paymentBook}
 use Rattle.model.specs.Delivery.{deliveryAnswer, deliveryOrders, deliveryBook}
 use Rattle.model.specs.OrderStatus.{statusAnswer, statusPart}
 use Rattle.model.specs.StockLevel.{stockLevelAnswer}
-use Rattle.model.specs.Request.{Request}
+use Rattle.model.specs.Request.{Request, linesOf}
 use Rattle.model.specs.RequestLine.{writeAnswer, writeBuffer}
 use Rattle.flat.specs.Flat.{bareOut, oneOut, twoOut, balanceOut, statusOut}
 use Rattle.flat.specs.FlatLines.{readOut}
@@ -51,12 +51,10 @@ pub record StatusC (b : List ℤ) (names : List ℕ) (q : OrderStatus) (who : Wh
 pub record StockLevelC (b : List ℤ) (names : List ℕ) (q : StockLevel) (out : List ℕ) : Type 0 where
   pub answers : out ≡ oneOut (stockLevelAnswer b names q)
 
--- what reading answers, in numbers, and the arrays beside it
-pub record ReadC (r : ReadAnswer) (out items supplies quantities name : List ℕ) : Type 0 where
+-- what reading answers, in numbers, and the lines and the last name beside it
+pub record ReadC (r : ReadAnswer) (out : List ℕ) (lines : List Line) (name : List ℕ) : Type 0 where
   pub answers : out ≡ readOut (r .outcome) (r .lines .count) (r .name .length)
-  pub items-are : items ≡ r .lines .items
-  pub supplies-are : supplies ≡ r .lines .supplies
-  pub quantities-are : quantities ≡ r .lines .quantities
+  pub lines-are : lines ≡ linesOf (r .lines .items) (r .lines .supplies) (r .lines .quantities)
   pub name-is : name ≡ r .name .bytes
 
 -- a request's line written to the front of a buffer

@@ -1,13 +1,16 @@
 // The calls for C and Rust: slices as pointer and length, answers as flat numbers that the caller lends.
-ghost use mathlib.Core.List.{[]};
+ghost use mathlib.Core.List.{List, []};
 ghost use Rattle.model.specs.Names.{whoOf};
 ghost use Rattle.flat.specs.Flat.{selectionOf, newOrderOf, paymentOf, deliveryOf, statusOf, stockLevelOf};
-ghost use Rattle.model.specs.Request.{requestOf, newOrder, payment, delivery, orderStatus, stockLevel, linesOf};
+ghost use Rattle.model.specs.declared.Line.{Line};
+ghost use Rattle.model.specs.Request.{requestOf, newOrder, payment, delivery, orderStatus, stockLevel};
 ghost use Rattle.model.specs.RequestLine.{readLine, stored};
+ghost use Rattle.records.specs.Gathered.{Gathered};
 ghost use Rattle.capi.specs.Calls.{OpeningC, NewOrderC, PaymentC, DeliveryC, StatusC, StockLevelC, ReadC, WriteC};
 use model::Delivery;
 use model::Form;
 use model::Line;
+use model::Lines;
 use model::NewOrder;
 use model::OrderStatus;
 use model::Payment;
@@ -159,35 +162,64 @@ pub extern "C" fn book_stock_level(
     *out = flat::stock_level_out(o);
 }
 
-// A request line read; the order's lines and the last name go to arrays of their own, 0 where they have no part in the request.
-#[no_mangle]
-pub extern "C" fn book_read_line(
-    line: &[u8],
-    out: &mut [u64; 13],
-    items: &mut [u64; 15],
-    supplies: &mut [u64; 15],
-    quantities: &mut [u64; 15],
-    name: &mut [u8; 16],
-)
-    ensures { λ _. ⌜ ReadC (stored (readLine (now (line .entry))))
-        (now (out .exit)) (now (items .exit)) (now (supplies .exit)) (now (quantities .exit)) (now (name .exit)) ⌝ }
+// A request line read, but for the order's lines, which it returns.
+fn read_beside(line: &[u8], out: &mut [u64; 13], name: &mut [u8; 16]) -> [Line; 15]
+    ensures { λ r. ⌜ ReadC (stored (readLine (now (line .entry)))) (now (out .exit)) r (now (name .exit)) ⌝ }
 {
     let a = lines::read_line(line);
     let o = a.outcome;
     let l = a.lines;
     let n = a.name;
     *out = flat::read_out(o, l.count, n.length);
-    let is = l.items;
-    *items = is;
-    let ss = l.supplies;
-    *supplies = ss;
-    let qs = l.quantities;
-    *quantities = qs;
     let bytes = n.bytes;
     *name = bytes;
+    records::listed(l)
 }
 
-// A New-Order's line written to the front of a buffer.
+// A request line read; the order's lines and the last name go to arrays of their own, 0 where they have no part in the request.
+#[no_mangle]
+pub extern "C" fn book_read_line(
+    line: &[u8],
+    out: &mut [u64; 13],
+    lines: &mut [Line; 15],
+    name: &mut [u8; 16],
+)
+    ensures { λ _. ⌜ ReadC (stored (readLine (now (line .entry)))) (now (out .exit)) (now (lines .exit)) (now (name .exit)) ⌝ }
+{
+    let ls = read_beside(line, out, name);
+    *lines = ls;
+}
+
+// A New-Order's line written, its lines gathered in arrays; more than 15 lines have no form.
+fn write_order(buffer: &mut [u8], q: NewOrder, l: Lines, out: &mut [u64; 3])
+    ensures { λ _. ⌜ ((lines : List Line) → Gathered lines l → WriteC (now (buffer .entry)) (newOrder q lines) (now (out .exit)) (now (buffer .exit))) ⌝ }
+{
+    let count = l.count;
+    if 15 < count {
+        let a = writing::not_written();
+        let o = a.outcome;
+        *out = flat::write_out(o);
+        return;
+    }
+    let n = count as usize;
+    let items = l.items;
+    let supplies = l.supplies;
+    let quantities = l.quantities;
+    let none = [0u8; 1];
+    let form = Form::NewOrder(q);
+    let a = writing::write_line(
+        buffer,
+        form,
+        &items[0..n],
+        &supplies[0..n],
+        &quantities[0..n],
+        &none[0..0],
+    );
+    let o = a.outcome;
+    *out = flat::write_out(o);
+}
+
+// A New-Order's line written to the front of a buffer; the lines are a lent slice of records of any length.
 #[no_mangle]
 pub extern "C" fn book_write_new_order(
     buffer: &mut [u8],
@@ -195,25 +227,20 @@ pub extern "C" fn book_write_new_order(
     district: u64,
     customer: u64,
     date: u64,
-    items: &[u64],
-    supplies: &[u64],
-    quantities: &[u64],
+    lines: &[Line],
     out: &mut [u64; 3],
 )
-    ensures { λ _. ⌜ WriteC (now (buffer .entry))
-        (newOrder (newOrderOf warehouse district customer date) (linesOf (now (items .entry)) (now (supplies .entry)) (now (quantities .entry))))
+    ensures { λ _. ⌜ WriteC (now (buffer .entry)) (newOrder (newOrderOf warehouse district customer date) (now (lines .entry)))
         (now (out .exit)) (now (buffer .exit)) ⌝ }
 {
-    let form = Form::NewOrder(NewOrder {
+    let q = NewOrder {
         warehouse,
         district,
         customer,
         date,
-    });
-    let none = [0u8; 1];
-    let a = writing::write_line(buffer, form, items, supplies, quantities, &none[0..0]);
-    let o = a.outcome;
-    *out = flat::write_out(o);
+    };
+    let l = records::gather(lines);
+    write_order(buffer, q, l, out)
 }
 
 // A request without lines written: its form, and the last name beside it.

@@ -278,7 +278,7 @@ fn form_ok(form: Form, items: &[u64], supplies: &[u64], quantities: &[u64], name
 }
 
 // The answer where nothing is written.
-fn not_written() -> WriteAnswer
+pub fn not_written() -> WriteAnswer
     ensures { λ r. ⌜ r ≡ notWritten ⌝ }
 {
     let outcome = WriteOutcome::Refused(Refusal {

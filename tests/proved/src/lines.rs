@@ -7,9 +7,7 @@ extern "C" {
         line: *const u8,
         line_len: usize,
         out: *mut u64,
-        items: *mut u64,
-        supplies: *mut u64,
-        quantities: *mut u64,
+        lines: *mut Line,
         name: *mut u8,
     );
     fn book_write_new_order(
@@ -19,12 +17,8 @@ extern "C" {
         district: u64,
         customer: u64,
         date: u64,
-        items: *const u64,
-        items_len: usize,
-        supplies: *const u64,
-        supplies_len: usize,
-        quantities: *const u64,
-        quantities_len: usize,
+        lines: *const Line,
+        lines_len: usize,
         out: *mut u64,
     );
     fn book_write_payment(
@@ -57,21 +51,26 @@ extern "C" {
     fn book_write_stock_level(buffer: *mut u8, buffer_len: usize, warehouse: u64, district: u64, threshold: u64, out: *mut u64);
 }
 
+/// A line of equal numbers.
+const fn line_of(number: u64) -> Line {
+    Line {
+        item: number,
+        supply_warehouse: number,
+        quantity: number,
+    }
+}
+
 /// What reading answers, as the arrays hold it. They start out of place, so that what is left unwritten shows.
 struct Read {
     out: [u64; 13],
-    items: [u64; 15],
-    supplies: [u64; 15],
-    quantities: [u64; 15],
+    lines: [Line; 15],
     name: [u8; 16],
 }
 
 pub fn read(line: &[u8]) -> Outcome<Request> {
     let mut read = Read {
         out: [77; 13],
-        items: [77; 15],
-        supplies: [77; 15],
-        quantities: [77; 15],
+        lines: [line_of(77); 15],
         name: [77; 16],
     };
     // SAFETY: the pointer goes with the slice's length, and the arrays have the lengths that the header names; so for every call below.
@@ -80,9 +79,7 @@ pub fn read(line: &[u8]) -> Outcome<Request> {
             line.as_ptr(),
             line.len(),
             read.out.as_mut_ptr(),
-            read.items.as_mut_ptr(),
-            read.supplies.as_mut_ptr(),
-            read.quantities.as_mut_ptr(),
+            read.lines.as_mut_ptr(),
             read.name.as_mut_ptr(),
         );
     }
@@ -100,14 +97,8 @@ impl Read {
     /// The order's lines; what lies beyond them is 0.
     fn lines(&self) -> Vec<Line> {
         let count = self.out[11] as usize;
-        let beyond = |column: &[u64; 15]| column[count..].iter().all(|&n| n == 0);
-        assert!([&self.items, &self.supplies, &self.quantities].into_iter().all(beyond), "a line past the last");
-        let line = |i: usize| Line {
-            item: self.items[i],
-            supply_warehouse: self.supplies[i],
-            quantity: self.quantities[i],
-        };
-        (0..count).map(line).collect()
+        assert!(self.lines[count..].iter().all(|&line| line == line_of(0)), "a line past the last");
+        self.lines[..count].to_vec()
     }
 
     /// The last name; what lies beyond it is 0.
@@ -199,9 +190,6 @@ pub fn write(request: &Request, buffer: &mut [u8]) -> Outcome<u64> {
 }
 
 fn write_new_order(r: &NewOrder, to: *mut u8, room: usize, answer: *mut u64) {
-    let items: Vec<u64> = r.lines.iter().map(|line| line.item).collect();
-    let supplies: Vec<u64> = r.lines.iter().map(|line| line.supply_warehouse).collect();
-    let quantities: Vec<u64> = r.lines.iter().map(|line| line.quantity).collect();
     unsafe {
         book_write_new_order(
             to,
@@ -210,12 +198,8 @@ fn write_new_order(r: &NewOrder, to: *mut u8, room: usize, answer: *mut u64) {
             r.district,
             r.customer,
             r.date,
-            items.as_ptr(),
-            items.len(),
-            supplies.as_ptr(),
-            supplies.len(),
-            quantities.as_ptr(),
-            quantities.len(),
+            r.lines.as_ptr(),
+            r.lines.len(),
             answer,
         );
     }
