@@ -9,8 +9,6 @@ ghost use Rattle.blocks.specs.Cutting.{Started};
 ghost use Rattle.desk.specs.Step.{Stepped, Ran};
 ghost use Rattle.desk.specs.Input.{FedIn, Served};
 ghost use Rattle.desk.specs.Filling.{headTo, districtsTo, pricesTo, stocksTo, twoNames};
-use libc::STDIN_FILENO;
-use libc::STDOUT_FILENO;
 use model::OpeningOutcome;
 use model::ReadOutcome;
 
@@ -167,7 +165,7 @@ fn feed(b: &mut [i64], names: &[u8], line: &mut [u8], len: usize, block: &[u8]) 
         }
         let m = step(b, names, &line[0..n], &mut out);
         n = 0;
-        if !io::write_all(STDOUT_FILENO, &out[0..m]) {
+        if !stdio::put(&out[0..m]) {
             return Fed {
                 len: n,
                 used: at,
@@ -177,8 +175,8 @@ fn feed(b: &mut [i64], names: &[u8], line: &mut [u8], len: usize, block: &[u8]) 
     }
 }
 
-// Standard input answered line by line, until it ends or the output is closed; a last line without its end is answered too.
-fn serve(b: &mut [i64], names: &[u8])
+// Standard input answered line by line, until it ends or cannot be read or the output takes no more; a last line without its end is answered too. True where the input ended and the output took every answer.
+fn serve(b: &mut [i64], names: &[u8]) -> bool
     ensures { λ _. ⌜ Served (lent (now (b .entry)) (now (names .entry))) (lent (now (b .exit)) (now (names .entry))) ⌝ }
 {
     let mut block = [0u8; 4096];
@@ -186,24 +184,28 @@ fn serve(b: &mut [i64], names: &[u8])
     let mut len: usize = 0;
     let mut turns = u64::MAX;
     while turns > 0 {
-        let got = libc::read(STDIN_FILENO, &mut block);
-        let n = io::count(got, &block);
+        let got = stdio::get(&mut block);
+        if got.failed {
+            return false;
+        }
+        let n = got.count;
         if n == 0 {
             if 0 < len {
                 let mut out = [0u8; 2048];
                 let m = step(b, names, &line[0..len], &mut out);
-                io::write_all(STDOUT_FILENO, &out[0..m]);
+                return stdio::put(&out[0..m]);
             }
-            return;
+            return true;
         }
         let fed = feed(b, names, &mut line, len, &block[0..n]);
         if fed.open {
             len = fed.len;
         } else {
-            return;
+            return false;
         }
         turns -= 1;
     }
+    false
 }
 
 // The program: its book, opened, and standard input answered on it. True, for opening accepts the book.
@@ -218,7 +220,9 @@ pub fn run() -> bool
     let o = a.outcome;
     match o {
         OpeningOutcome::Accepted => {
-            serve(&mut b, &names);
+            if serve(&mut b, &names) {
+                stdio::close();
+            }
             true
         }
         OpeningOutcome::Refused(_) => false,

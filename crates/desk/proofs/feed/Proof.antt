@@ -13,7 +13,7 @@ use Rattle.desk.proofs.feed.Reads as reads
 use Rattle.desk.proofs.feed.Lts as lts
 use Rattle.blocks.proofs.cut.Reads as cut-reads
 use Rattle.desk.proofs.step.Reads as step-reads
-use Rattle.io.proofs.write_all.Reads as write-all-reads
+use Rattle.stdio.proofs.put.Reads as put-reads
 
 abbrev Inv-loop : tie.InvT-loop
 Inv-loop b₀ names line₀ len block out₀ n₀ at₀ b line out n at = (length b ≡ length b₀) × ((length out ≡ 2048) × FedUpTo (lent b₀ names) (take len line₀) block (lent b names) line n at)
@@ -53,18 +53,18 @@ slice-aggregate-step c = search needs
 step-requires : tie.Need-step-requires Inv-loop μ-loop
 step-requires c κs = search needs
 
-sub-write-all : tie.Need-sub-write-all Inv-loop μ-loop
-sub-write-all c = search needs
+sub-put : tie.Need-sub-put Inv-loop μ-loop
+sub-put c = search needs
 
-part-write-all-start : tie.Need-part-write-all-start Inv-loop μ-loop
-part-write-all-start c = search needs
+part-put-start : tie.Need-part-put-start Inv-loop μ-loop
+part-put-start c = search needs
 
-part-write-all-end : tie.Need-part-write-all-end Inv-loop μ-loop
-part-write-all-end c =
+part-put-end : tie.Need-part-put-end Inv-loop μ-loop
+part-put-end c =
     written-part _ _ _ _ _ _ (c .before .before .before .step .ensures)
 
-write-all-requires : tie.Need-write-all-requires Inv-loop μ-loop
-write-all-requires c κs = search needs
+put-requires : tie.Need-put-requires Inv-loop μ-loop
+put-requires c κs = search needs
 
 same-length-3 : tie.Need-same-length-3 Inv-loop μ-loop
 same-length-3 c = search needs
@@ -100,10 +100,10 @@ feed-spec =
     part-step-end
     slice-aggregate-step
     step-requires
-    sub-write-all
-    part-write-all-start
-    part-write-all-end
-    write-all-requires
+    sub-put
+    part-put-start
+    part-put-end
+    put-requires
     same-length-3
     same-length-4
     returns-2

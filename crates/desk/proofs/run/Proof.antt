@@ -7,6 +7,7 @@ use Rattle.desk.proofs.fill_names.Reads as fill-names-reads
 use Rattle.desk.proofs.fill_numbers.Reads as fill-numbers-reads
 use Rattle.desk.proofs.serve.Reads as serve-reads
 use Rattle.opening.proofs.opening.Reads as opening-reads
+use Rattle.stdio.proofs.close.Reads as close-reads
 
 slice-aggregate-fill-numbers : tie.Need-slice-aggregate-fill-numbers
 slice-aggregate-fill-numbers c = search needs
@@ -41,15 +42,22 @@ slice-aggregate-serve-2 c = search needs
 serve-requires : tie.Need-serve-requires
 serve-requires c κs = search needs
 
+close-requires : tie.Need-close-requires
+close-requires c κs = search needs
+
 enum-told-2 : tie.Need-enum-told-2
 enum-told-2 c = search needs
 
 returns : tie.Need-returns
 returns c =
-    record { opened = rw (← c .before .before .before .before .before .before .before .before .before .before .before .before .before .fill-numbers .ensures, ← c .before .before .before .before .before .before .before .before .before .before .fill-names .ensures, ← c .before .before .before .before .before .before .opening .ensures .says, c .before .before .before .before .enum-told .given .1) }
+    record { opened = rw (← c .before .before .before .before .before .before .before .before .before .before .before .before .before .before .before .fill-numbers .ensures, ← c .before .before .before .before .before .before .before .before .before .before .before .before .fill-names .ensures, ← c .before .before .before .before .before .before .before .before .opening .ensures .says, c .before .before .before .before .before .before .enum-told .given .1) }
 
 returns-2 : tie.Need-returns-2
 returns-2 c =
+    record { opened = rw (← c .before .before .before .before .before .before .before .before .before .before .before .before .before .before .fill-numbers .ensures, ← c .before .before .before .before .before .before .before .before .before .before .before .fill-names .ensures, ← c .before .before .before .before .before .before .before .opening .ensures .says, c .before .before .before .before .before .enum-told .given .1) }
+
+returns-3 : tie.Need-returns-3
+returns-3 c =
     record { opened = rw (← c .before .before .before .before .before .before .before .before .before .fill-numbers .ensures, ← c .before .before .before .before .before .before .fill-names .ensures, ← c .before .before .opening .ensures .says, c .enum-told2 .given .1) }
 
 pub run-spec : {M : Type 1} → statement M
@@ -67,6 +75,8 @@ run-spec =
     slice-aggregate-serve
     slice-aggregate-serve-2
     serve-requires
+    close-requires
     enum-told-2
     returns
-    returns-2)
+    returns-2
+    returns-3)

@@ -10,9 +10,8 @@ use Rattle.desk.proofs.serve.Reads as reads
 use Rattle.desk.proofs.serve.Lts as lts
 use Rattle.desk.proofs.feed.Reads as feed-reads
 use Rattle.desk.proofs.step.Reads as step-reads
-use Rattle.io.proofs.count.Reads as count-reads
-use Rattle.io.proofs.write_all.Reads as write-all-reads
-use Rattle.libc.proofs.read.Reads as read-reads
+use Rattle.stdio.proofs.get.Reads as get-reads
+use Rattle.stdio.proofs.put.Reads as put-reads
 
 abbrev Inv-loop : tie.InvT-loop
 Inv-loop b₀ names block₀ line₀ len₀ turns₀ b block line len turns = (length b ≡ length b₀) × ((length block ≡ 4096) × ServedUpTo (lent b₀ names) (lent b names) line len)
@@ -24,17 +23,18 @@ loop-holds : tie.Need-loop-holds Inv-loop μ-loop
 loop-holds c =
     (search needs, (search needs, none-served _ _ (search needs)))
 
-slice-aggregate-read : tie.Need-slice-aggregate-read Inv-loop μ-loop
-slice-aggregate-read c = search needs
+slice-aggregate-get : tie.Need-slice-aggregate-get Inv-loop μ-loop
+slice-aggregate-get c = search needs
 
-read-requires : tie.Need-read-requires Inv-loop μ-loop
-read-requires c κs = search needs
+get-requires : tie.Need-get-requires Inv-loop μ-loop
+get-requires c κs = search needs
 
-slice-aggregate-count : tie.Need-slice-aggregate-count Inv-loop μ-loop
-slice-aggregate-count c = search needs
+same-length : tie.Need-same-length Inv-loop μ-loop
+same-length c = search needs
 
-count-requires : tie.Need-count-requires Inv-loop μ-loop
-count-requires c κs = search needs
+returns : tie.Need-returns Inv-loop μ-loop
+returns c =
+    input-served _ _ _ _ (c .before .before .before .before .before .loop .inv .1 .1)
 
 sub-step : tie.Need-sub-step Inv-loop μ-loop
 sub-step c = search needs
@@ -51,32 +51,32 @@ slice-aggregate-step c = search needs
 step-requires : tie.Need-step-requires Inv-loop μ-loop
 step-requires c κs = search needs
 
-sub-write-all : tie.Need-sub-write-all Inv-loop μ-loop
-sub-write-all c = search needs
+sub-put : tie.Need-sub-put Inv-loop μ-loop
+sub-put c = search needs
 
-part-write-all-start : tie.Need-part-write-all-start Inv-loop μ-loop
-part-write-all-start c = search needs
+part-put-start : tie.Need-part-put-start Inv-loop μ-loop
+part-put-start c = search needs
 
-part-write-all-end : tie.Need-part-write-all-end Inv-loop μ-loop
-part-write-all-end c =
+part-put-end : tie.Need-part-put-end Inv-loop μ-loop
+part-put-end c =
     written-part _ _ _ _ _ _ (c .before .before .before .step .ensures)
 
-write-all-requires : tie.Need-write-all-requires Inv-loop μ-loop
-write-all-requires c κs = search needs
-
-same-length : tie.Need-same-length Inv-loop μ-loop
-same-length c = search needs
-
-returns : tie.Need-returns Inv-loop μ-loop
-returns c =
-    last-served _ _ _ _ (c .before .before .before .before .before .before .before .before .before .before .before .before .before .before .before .before .before .before .loop .inv .1 .1) _ (left-line _ _ _ (c .before .before .before .before .before .before .before .before .before .before .before .before .before .before .before .before .before .before .loop .line) _ _ (c .before .before .before .before .before .before .before .before .before .before .before .before .before .before .before .before .before .before .loop .len) _ (search needs) (c .before .before .before .before .before .step .ensures))
+put-requires : tie.Need-put-requires Inv-loop μ-loop
+put-requires c κs = search needs
 
 same-length-2 : tie.Need-same-length-2 Inv-loop μ-loop
 same-length-2 c = search needs
 
 returns-2 : tie.Need-returns-2 Inv-loop μ-loop
 returns-2 c =
-    input-served _ _ _ _ (c .before .before .before .before .before .before .before .before .loop .inv .1 .1)
+    last-served _ _ _ _ (c .before .before .before .before .before .before .before .before .before .before .before .before .before .before .before .before .before .loop .inv .1 .1) _ (left-line _ _ _ (c .before .before .before .before .before .before .before .before .before .before .before .before .before .before .before .before .before .loop .line) _ _ (c .before .before .before .before .before .before .before .before .before .before .before .before .before .before .before .before .before .loop .len) _ (search needs) (c .before .before .before .before .before .step .ensures))
+
+same-length-3 : tie.Need-same-length-3 Inv-loop μ-loop
+same-length-3 c = search needs
+
+returns-3 : tie.Need-returns-3 Inv-loop μ-loop
+returns-3 c =
+    input-served _ _ _ _ (c .before .before .before .before .before .before .before .loop .inv .1 .1)
 
 slice-aggregate-feed : tie.Need-slice-aggregate-feed Inv-loop μ-loop
 slice-aggregate-feed c = search needs
@@ -93,12 +93,12 @@ part-feed-end c = search needs
 feed-requires : tie.Need-feed-requires Inv-loop μ-loop
 feed-requires c κs = search needs
 
-same-length-3 : tie.Need-same-length-3 Inv-loop μ-loop
-same-length-3 c = search needs
+same-length-4 : tie.Need-same-length-4 Inv-loop μ-loop
+same-length-4 c = search needs
 
-returns-3 : tie.Need-returns-3 Inv-loop μ-loop
-returns-3 c =
-    input-served _ _ _ _ (block-served _ _ _ _ _ _ _ _ _ _ _ (c .before .before .before .before .before .before .before .before .before .before .before .before .before .before .before .loop .inv .1 .1) (c .before .before .before .feed .ensures) (search needs))
+returns-4 : tie.Need-returns-4 Inv-loop μ-loop
+returns-4 c =
+    input-served _ _ _ _ (block-served _ _ _ _ _ _ _ _ _ _ _ (c .before .before .before .before .before .before .before .before .before .before .before .before .before .before .loop .inv .1 .1) (c .before .before .before .feed .ensures) (search needs))
 
 sub-turns : tie.Need-sub-turns Inv-loop μ-loop
 sub-turns c = search needs
@@ -108,13 +108,13 @@ loop-less c = search needs
 
 loop-again : tie.Need-loop-again Inv-loop μ-loop
 loop-again c =
-    (search needs, (search needs, block-served _ _ _ _ _ _ _ _ _ _ _ (c .before .before .before .before .before .before .before .before .before .before .before .before .before .before .before .loop .inv .1 .1) (c .before .before .before .feed .ensures) (search needs)))
+    (search needs, (search needs, block-served _ _ _ _ _ _ _ _ _ _ _ (c .before .before .before .before .before .before .before .before .before .before .before .before .before .before .loop .inv .1 .1) (c .before .before .before .feed .ensures) (search needs)))
 
-same-length-4 : tie.Need-same-length-4 Inv-loop μ-loop
-same-length-4 c = search needs
+same-length-5 : tie.Need-same-length-5 Inv-loop μ-loop
+same-length-5 c = search needs
 
-returns-4 : tie.Need-returns-4 Inv-loop μ-loop
-returns-4 c =
+returns-5 : tie.Need-returns-5 Inv-loop μ-loop
+returns-5 c =
     input-served _ _ _ _ (c .before .loop .inv .1 .1)
 
 pub serve-spec : {M : Type 1} → statement M
@@ -124,32 +124,32 @@ serve-spec =
     Inv-loop
     μ-loop
     loop-holds
-    slice-aggregate-read
-    read-requires
-    slice-aggregate-count
-    count-requires
+    slice-aggregate-get
+    get-requires
+    same-length
+    returns
     sub-step
     part-step-start
     part-step-end
     slice-aggregate-step
     step-requires
-    sub-write-all
-    part-write-all-start
-    part-write-all-end
-    write-all-requires
-    same-length
-    returns
+    sub-put
+    part-put-start
+    part-put-end
+    put-requires
     same-length-2
     returns-2
+    same-length-3
+    returns-3
     slice-aggregate-feed
     sub-feed
     part-feed-start
     part-feed-end
     feed-requires
-    same-length-3
-    returns-3
+    same-length-4
+    returns-4
     sub-turns
     loop-less
     loop-again
-    same-length-4
-    returns-4)
+    same-length-5
+    returns-5)

@@ -1,0 +1,131 @@
+// Standard input and output of a program that loses nothing silently: what failed is said on standard error.
+ghost use mathlib.Core.Path.{_≡_};
+ghost use mathlib.Core.Bool.{true};
+ghost use lib.ListN.{length};
+ghost use Rattle.io.specs.Counts.{Counts};
+use libc::EAGAIN;
+use libc::EINTR;
+use libc::STDIN_FILENO;
+use libc::STDOUT_FILENO;
+
+// Whether a call that failed so is to be made again: a signal came, or it would have had to wait.
+fn again(error: i32) -> bool {
+    if error == EINTR {
+        return true;
+    }
+    error == EAGAIN
+}
+
+// Lets the other side go on.
+fn pause() {
+    libc::sched_yield();
+}
+
+// Just after a call that failed: true where it is to be made again, after a pause where it would have had to wait. Else says what failed.
+fn recovers(what: &[u8]) -> bool {
+    let error = os::errno();
+    if !again(error) {
+        os::fail(what);
+        return false;
+    }
+    if error == EAGAIN {
+        pause();
+    }
+    true
+}
+
+// The bytes that one write took, and whether to go on.
+struct Taken {
+    count: usize,
+    going: bool,
+}
+
+// One write of what is left.
+fn put_some(rest: &[u8]) -> Taken
+    ensures { λ r. ⌜ Counts (r .count) (now (rest .entry)) ⌝ }
+{
+    let got = libc::write(STDOUT_FILENO, rest);
+    let n = io::count(got, rest);
+    if 0 < n {
+        return Taken {
+            count: n,
+            going: true,
+        };
+    }
+    if got == 0 {
+        os::fail(b"book: standard output");
+        return Taken {
+            count: n,
+            going: false,
+        };
+    }
+    let going = recovers(b"book: standard output");
+    Taken { count: n, going }
+}
+
+// Writes all of bytes to standard output. Where that fails says so, and answers false.
+pub fn put(bytes: &[u8]) -> bool
+    ensures { λ r. ⌜ (length (now (bytes .entry)) ≡ 0 → r ≡ true) ⌝ }
+{
+    let mut done: usize = 0;
+    let mut turns = u64::MAX;
+    while turns > 0 {
+        if done == bytes.len() {
+            return true;
+        }
+        let p = put_some(&bytes[done..]);
+        if !p.going {
+            return false;
+        }
+        done += p.count;
+        turns -= 1;
+    }
+    false
+}
+
+// The bytes read to the front of a buffer, none at the end of the input; whether the read failed.
+pub struct Got {
+    pub count: usize,
+    pub failed: bool,
+}
+
+// Whether to read again, just after a read that failed.
+fn reads_again() -> bool {
+    recovers(b"book: standard input")
+}
+
+// One read of standard input. Where it fails says so.
+pub fn get(buf: &mut [u8]) -> Got
+    ensures { λ r. ⌜ Counts (r .count) (now (buf .exit)) ⌝ }
+    ensures { λ r. ⌜ (r .failed ≡ true → r .count ≡ 0) ⌝ }
+{
+    let mut turns = u64::MAX;
+    while turns > 0 {
+        let got = libc::read(STDIN_FILENO, buf);
+        let n = io::count(got, buf);
+        if 0 <= got {
+            return Got {
+                count: n,
+                failed: false,
+            };
+        }
+        if !reads_again() {
+            return Got {
+                count: 0,
+                failed: true,
+            };
+        }
+        turns -= 1;
+    }
+    Got {
+        count: 0,
+        failed: true,
+    }
+}
+
+// Closes standard output, for some errors show only there. Where it fails says so.
+pub fn close() {
+    if libc::close(STDOUT_FILENO) < 0 {
+        os::fail(b"book: standard output");
+    }
+}
