@@ -7,6 +7,7 @@ use libc::EAGAIN;
 use libc::EINTR;
 use libc::STDIN_FILENO;
 use libc::STDOUT_FILENO;
+use libc::types::timespec;
 
 // Whether a call that failed so is to be made again: a signal came, or it would have had to wait.
 fn again(error: i32) -> bool {
@@ -16,9 +17,17 @@ fn again(error: i32) -> bool {
     error == EAGAIN
 }
 
-// Lets the other side go on.
+// Waits a millisecond, or until a signal comes.
 fn pause() {
-    libc::sched_yield();
+    let asked = timespec {
+        tv_sec: 0,
+        tv_nsec: 1000000,
+    };
+    let mut left = timespec {
+        tv_sec: 0,
+        tv_nsec: 0,
+    };
+    libc::nanosleep(&asked, &mut left);
 }
 
 // Just after a call that failed: true where it is to be made again, after a pause where it would have had to wait. Else says what failed.
