@@ -3,14 +3,18 @@ ghost use mathlib.Core.Path.{_≡_};
 ghost use mathlib.Core.Bool.{true};
 ghost use lib.ListN.{length};
 ghost use Rattle.io.specs.Counts.{Counts};
+ghost use Rattle.stdio.specs.Errors.{isPassing};
 use libc::EAGAIN;
 use libc::EINTR;
+use libc::STDERR_FILENO;
 use libc::STDIN_FILENO;
 use libc::STDOUT_FILENO;
 use libc::types::timespec;
 
 // Whether a call that failed so is to be made again: a signal came, or it would have had to wait.
-fn again(error: i32) -> bool {
+fn again(error: i32) -> bool
+    ensures { λ r. ⌜ r ≡ isPassing error ⌝ }
+{
     if error == EINTR {
         return true;
     }
@@ -62,7 +66,7 @@ fn put_some(rest: &[u8]) -> Taken
         };
     }
     if got == 0 {
-        os::fail(b"book: standard output");
+        io::write_all(STDERR_FILENO, b"book: standard output: takes no bytes\n");
         return Taken {
             count: n,
             going: false,
