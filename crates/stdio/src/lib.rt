@@ -123,10 +123,7 @@ pub fn get(buf: &mut [u8]) -> Got
             };
         }
         if !reads_again() {
-            return Got {
-                count: 0,
-                failed: true,
-            };
+            break;
         }
         turns -= 1;
     }
