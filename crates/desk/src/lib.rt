@@ -141,7 +141,7 @@ struct Fed {
     open: bool,
 }
 
-// A block of input: each line that it ends is answered, until the output is closed.
+// A block of input: each line that it ends is answered, until the output takes no more.
 fn feed(b: &mut [i64], names: &[u8], line: &mut [u8], len: usize, block: &[u8]) -> Fed
     requires { ⌜ Started (now line) len (now block) 0 ⌝ }
     ensures { λ r. ⌜ FedIn
@@ -175,7 +175,7 @@ fn feed(b: &mut [i64], names: &[u8], line: &mut [u8], len: usize, block: &[u8]) 
     }
 }
 
-// Standard input answered line by line, until it ends or cannot be read or the output takes no more; a last line without its end is answered too. True where the input ended and the output took every answer.
+// Standard input answered line by line, until it ends, cannot be read, or the output takes no more; at its end a last line without its own is answered too. True where all was read and every answer taken.
 fn serve(b: &mut [i64], names: &[u8]) -> bool
     ensures { λ _. ⌜ Served (lent (now (b .entry)) (now (names .entry))) (lent (now (b .exit)) (now (names .entry))) ⌝ }
 {
@@ -208,7 +208,7 @@ fn serve(b: &mut [i64], names: &[u8]) -> bool
     false
 }
 
-// The program: its book, opened, and standard input answered on it. True, for opening accepts the book.
+// The program: its book, opened, and standard input answered on it; where all went well the output is closed. True, for opening accepts the book.
 pub fn run() -> bool
     ensures { λ r. ⌜ Ran programBook programNames r ⌝ }
 {

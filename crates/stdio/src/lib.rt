@@ -1,4 +1,5 @@
-// Standard input and output of a program that loses nothing silently: what failed is said on standard error.
+// Standard input and output: short writes, signals and waits are carried on with, and what failed is said in one line on standard error.
+// No contract can say what was read or written, nor what errno is.
 ghost use mathlib.Core.Path.{_≡_};
 ghost use mathlib.Core.Bool.{true};
 ghost use lib.ListN.{length};
@@ -53,7 +54,7 @@ struct Taken {
     going: bool,
 }
 
-// One write of what is left.
+// One write of what is left. A write that takes none of it sets no errno.
 fn put_some(rest: &[u8]) -> Taken
     ensures { λ r. ⌜ Counts (r .count) (now (rest .entry)) ⌝ }
 {
