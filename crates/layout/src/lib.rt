@@ -1,10 +1,11 @@
 ghost use mathlib.Core.Path.{_≡_};
-ghost use Prim.Native.Nat.{_+_, _≤_, _<_, _^_};
+ghost use Prim.Native.Nat.{_+_, _*_, _≤_, _<_, _^_};
 ghost use lib.ListN.{length};
 ghost use Rattle.model.specs.Tests.{every};
-ghost use Rattle.model.specs.Layout.{numbers, shapes, place};
+ghost use Rattle.model.specs.Layout.{numbers, nameBytes, shapes, place};
 ghost use Rattle.model.specs.Head.{dims, dimsTests, sizeTests};
 ghost use Rattle.model.specs.Rows.{warehouseRow, districtRow, customerRow, price, stockRow, slot, orderRow, historyRow};
+ghost use Rattle.model.specs.Names.{namePlace};
 ghost use Rattle.model.specs.Claim.{R};
 ghost use Rattle.model.proofs.Fields.{Dimensioned};
 ghost use Rattle.layout.specs.Layout.{allCustomers, allStocks, allOrders, itemBase, stockBase, orderBase, historyBase};
@@ -22,6 +23,17 @@ fn dims_ok(b: &[i64]) -> bool
         & cells::one_to(b, 2, 100000)
         & cells::one_to(b, 3, 10000)
         & cells::one_to(b, 4, 1000000)
+}
+
+// Five sizes that stand in no book are in the same ranges.
+pub fn dims_in_range(d: Dims) -> bool
+    ensures { λ r. ⌜ r ≡ every (dimsTests d) ⌝ }
+{
+    cells::within(d.warehouses, 1, 20)
+        & cells::within(d.customers, 1, 3000)
+        & cells::within(d.items, 1, 100000)
+        & cells::within(d.orders, 1, 10000)
+        & cells::within(d.histories, 1, 1000000)
 }
 
 // The five numbers, which have been found in their ranges.
@@ -98,11 +110,19 @@ fn history_base(d: Dims) -> u64
 }
 
 // How many numbers the book has.
-fn numbers_of(d: Dims) -> u64
+pub fn numbers_of(d: Dims) -> u64
     requires { ⌜ Dimensioned d ⌝ }
     ensures { λ r. ⌜ (r ≡ numbers d) × (r ≤ 207000000) ⌝ }
 {
     history_base(d) + 7 * d.histories
+}
+
+// How many name bytes the book has.
+pub fn name_bytes_of(d: Dims) -> u64
+    requires { ⌜ Dimensioned d ⌝ }
+    ensures { λ r. ⌜ (r ≡ nameBytes d) × (r ≤ 19200000) ⌝ }
+{
+    32 * all_customers(d)
 }
 
 // The history count and the two lengths agree with the head.
@@ -111,10 +131,10 @@ fn sizes_ok(b: &[i64], wide: u64, d: Dims) -> bool
     ensures { λ r. ⌜ r ≡ every (sizeTests d (now (b .entry)) wide) ⌝ }
 {
     let count = cells::get(b, 5);
-    let customers = all_customers(d);
     let numbers = numbers_of(d);
+    let bytes = name_bytes_of(d);
     let long = b.len() as u64;
-    (count <= d.histories) & (long == numbers) & (wide == 32 * customers)
+    (count <= d.histories) & (long == numbers) & (wide == bytes)
 }
 
 // What reading the head finds: a book of these dimensions, or none.
@@ -237,4 +257,22 @@ pub fn history_at(d: Dims, h: u64) -> u64
     ensures { λ r. ⌜ (r ≡ place (shapes d) (historyRow h)) × (r + 7 ≤ numbers d) ⌝ }
 {
     history_base(d) + 7 * (h - 1)
+}
+
+// Where the names of a district's customers start.
+pub fn name_base(d: Dims, w: u64, k: u64) -> u64
+    requires { ⌜ Dimensioned d × (R (d .warehouses) w × R 10 k) ⌝ }
+    ensures { λ r. ⌜ (r ≡ namePlace d w k 1) × (r + 32 * d .customers ≤ nameBytes d) ⌝ }
+{
+    let district = (w - 1) * 10 + (k - 1);
+    let first = district * d.customers;
+    32 * first
+}
+
+// Where the names of a customer start.
+pub fn name_at(d: Dims, w: u64, k: u64, c: u64) -> u64
+    requires { ⌜ Dimensioned d × (R (d .warehouses) w × (R 10 k × R (d .customers) c)) ⌝ }
+    ensures { λ r. ⌜ (r ≡ namePlace d w k c) × (r + 32 ≤ nameBytes d) ⌝ }
+{
+    name_base(d, w, k) + 32 * (c - 1)
 }

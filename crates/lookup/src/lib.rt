@@ -6,7 +6,7 @@ ghost use lib.Dec.{leb};
 ghost use lib.ListN.{length, take, drop};
 ghost use Rattle.model.specs.Tests.{every, allTo};
 ghost use Rattle.model.specs.Layout.{nameBytes};
-ghost use Rattle.model.specs.Names.{namePlace, nameAt, nameOk, padded, compareNames, insert, sorted, passing, found, whoOf, whoTests};
+ghost use Rattle.model.specs.Names.{nameAt, nameOk, padded, compareNames, insert, sorted, passing, found, whoOf, whoTests};
 ghost use Rattle.model.specs.Used.{customersUsed, namesUsed};
 ghost use Rattle.model.specs.Claim.{R};
 ghost use Rattle.model.proofs.Fields.{Dimensioned};
@@ -16,16 +16,6 @@ use model::Comparison;
 use model::Dims;
 use model::Found;
 use model::Selection;
-
-// Where the names of a district's customers start.
-fn name_base(d: Dims, w: u64, k: u64) -> u64
-    requires { ⌜ Dimensioned d × (R (d .warehouses) w × R 10 k) ⌝ }
-    ensures { λ r. ⌜ (r ≡ namePlace d w k 1) × (r + 32 * d .customers ≤ nameBytes d) ⌝ }
-{
-    let district = (w - 1) * 10 + (k - 1);
-    let first = district * d.customers;
-    32 * first
-}
 
 // Two names of 16 bytes, byte by byte from the left.
 fn compare_names(a: &[u8], p: u64, b: &[u8], q: u64) -> Comparison
@@ -195,7 +185,7 @@ pub fn find(names: &[u8], d: Dims, w: u64, k: u64, name: &[u8]) -> Found
         return Found::Nobody;
     }
     let wanted = pad(name);
-    let base = name_base(d, w, k);
+    let base = layout::name_base(d, w, k);
     let mut list = [0u64; 3000];
     let n = gather(names, base, d.customers, &wanted, &mut list);
     if n == 0 {
@@ -244,7 +234,7 @@ pub fn names_used(names: &[u8], d: Dims, w: u64, k: u64) -> bool
     requires { ⌜ Dimensioned d × (R (d .warehouses) w × (R 10 k × (length (now names) ≡ nameBytes d))) ⌝ }
     ensures { λ r. ⌜ r ≡ namesUsed d (now (names .entry)) w k ⌝ }
 {
-    names_ok(names, name_base(d, w, k), d.customers)
+    names_ok(names, layout::name_base(d, w, k), d.customers)
 }
 
 // A customer given by number is one of the district's.

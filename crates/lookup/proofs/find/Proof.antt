@@ -10,7 +10,7 @@ use Rattle.lookup.proofs.find.Tie as tie
 use Rattle.lookup.proofs.find.Reads as reads
 use Rattle.lookup.proofs.find.Lts as lts
 use Rattle.lookup.proofs.gather.Reads as gather-reads
-use Rattle.lookup.proofs.name_base.Reads as name-base-reads
+use Rattle.layout.proofs.name_base.Reads as name-base-reads
 use Rattle.lookup.proofs.pad.Reads as pad-reads
 
 returns : tie.Need-returns

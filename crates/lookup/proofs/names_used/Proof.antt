@@ -6,7 +6,7 @@ use Rattle.lookup.proofs.names_used.Statement.{statement}
 use Rattle.lookup.proofs.names_used.Tie as tie
 use Rattle.lookup.proofs.names_used.Reads as reads
 use Rattle.lookup.proofs.names_used.Lts as lts
-use Rattle.lookup.proofs.name_base.Reads as name-base-reads
+use Rattle.layout.proofs.name_base.Reads as name-base-reads
 use Rattle.lookup.proofs.names_ok.Reads as names-ok-reads
 
 name-base-requires : tie.Need-name-base-requires

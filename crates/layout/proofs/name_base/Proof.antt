@@ -2,10 +2,10 @@ use Rattle.model.proofs.NameLaws.{name-first, names-end, names-max}
 use Prim.Native.Nat.{_-_}
 use native.Mathlib.Omega.{arith}
 use borrow.Author.Needs.{needs}
-use Rattle.lookup.proofs.name_base.Statement.{statement}
-use Rattle.lookup.proofs.name_base.Tie as tie
-use Rattle.lookup.proofs.name_base.Reads as reads
-use Rattle.lookup.proofs.name_base.Lts as lts
+use Rattle.layout.proofs.name_base.Statement.{statement}
+use Rattle.layout.proofs.name_base.Tie as tie
+use Rattle.layout.proofs.name_base.Reads as reads
+use Rattle.layout.proofs.name_base.Lts as lts
 
 sub-district : tie.Need-sub-district
 sub-district c = search needs
