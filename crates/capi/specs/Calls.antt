@@ -1,6 +1,9 @@
 -- What the contract of each exported function says: the numbers put out, and what is left of the slices lent to be written; every book and every request,
 -- refused ones included.
 -- Assumes nothing.
+use Rattle.model.specs.declared.Dims.{Dims}
+use Rattle.places.specs.declared.Spot.{Spot}
+use Rattle.places.specs.Places.{placesOut}
 use mathlib.Core.Path.{_≡_}
 use mathlib.Core.List.{List}
 use Prim.Native.Nat.{ℕ, _+_, _≤_}
@@ -61,3 +64,7 @@ pub record ReadC (r : ReadAnswer) (out : List ℕ) (lines : List Line) (name : L
 pub record WriteC (buffer : List ℕ) (r : Request) (out left : List ℕ) : Type 0 where
   pub answers : out ≡ oneOut (writeAnswer buffer r)
   pub leaves : left ≡ writeBuffer buffer r
+
+-- the places in a book of sizes d
+pub record PlacesC (d : Dims) (s : Spot) (out : List ℕ) : Type 0 where
+  pub answers : out ≡ placesOut d s

@@ -6,7 +6,8 @@ ghost use Rattle.model.specs.declared.Line.{Line};
 ghost use Rattle.model.specs.Request.{requestOf, newOrder, payment, delivery, orderStatus, stockLevel};
 ghost use Rattle.model.specs.RequestLine.{readLine, stored};
 ghost use Rattle.records.specs.Gathered.{Gathered};
-ghost use Rattle.capi.specs.Calls.{OpeningC, NewOrderC, PaymentC, DeliveryC, StatusC, StockLevelC, ReadC, WriteC};
+ghost use Rattle.places.specs.Places.{dimsOf, spotOf};
+ghost use Rattle.capi.specs.Calls.{OpeningC, NewOrderC, PaymentC, DeliveryC, StatusC, StockLevelC, ReadC, WriteC, PlacesC};
 use model::Delivery;
 use model::Form;
 use model::Line;
@@ -354,4 +355,41 @@ pub extern "C" fn book_write_stock_level(
     });
     let none = [0u8; 1];
     *out = write_bare(buffer, form, &none[0..0]);
+}
+
+// Where the rows of a book of these sizes stand; order is an order's slot, history a history row's.
+#[no_mangle]
+pub extern "C" fn book_places(
+    warehouses: u64,
+    customers: u64,
+    items: u64,
+    orders: u64,
+    histories: u64,
+    warehouse: u64,
+    district: u64,
+    customer: u64,
+    item: u64,
+    order: u64,
+    history: u64,
+    out: &mut [u64; 12],
+)
+    ensures { λ _. ⌜ PlacesC (dimsOf warehouses customers items orders histories) (spotOf warehouse district customer item order history)
+        (now (out .exit)) ⌝ }
+{
+    let d = model::Dims {
+        warehouses,
+        customers,
+        items,
+        orders,
+        histories,
+    };
+    let s = places::Spot {
+        warehouse,
+        district,
+        customer,
+        item,
+        slot: order,
+        history,
+    };
+    *out = places::places(d, s);
 }
