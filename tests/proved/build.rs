@@ -1,4 +1,4 @@
-//! Links the static library that `rt staticlib capi` writes.
+//! Links the static library that `bin/build library` writes.
 
 fn main() {
     let root = std::path::Path::new(env!("CARGO_MANIFEST_DIR")).join("../..");

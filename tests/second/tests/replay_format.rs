@@ -159,3 +159,15 @@ fn reading_and_writing() {
     ];
     assert_eq!(replayed(text), expected);
 }
+
+/// The example of tests/REPLAY.md: its commands, then their answers, each block indented by four spaces.
+#[test]
+fn the_page_s_example() {
+    let page = include_str!("../../REPLAY.md");
+    let (_, example) = page.split_once("## An example").unwrap();
+    let (commands, answers) = example.split_once("answers").unwrap();
+    let block = |text: &str| text.lines().filter_map(|line| line.strip_prefix("    ").map(|l| format!("{l}\n"))).collect::<String>();
+    let mut output = Vec::new();
+    second::replay::run(&mut SecondEngine, &mut block(commands).as_bytes(), &mut output).unwrap();
+    assert_eq!(String::from_utf8(output).unwrap(), block(answers));
+}

@@ -14,6 +14,9 @@ pub use engine::{Engine, Lent, SecondEngine};
 use command::Command;
 use std::io::{self, BufRead, Write};
 
+/// Where the commands and answers are described.
+pub const HELP: &str = "HELP tests/REPLAY.md says what the commands are";
+
 /// What a byte of a write buffer holds before the call.
 const UNWRITTEN: u8 = 0xEE;
 
@@ -69,6 +72,7 @@ impl<'e, E: Engine> Replay<'e, E> {
                 self.lent.names = names;
                 return None;
             }
+            Command::Help => return Some(HELP.to_string()),
             Command::Bad(word) => return Some(format!("BAD {word}")),
             Command::Open => print::open(self.engine.open(&self.lent)),
             Command::Call(request) => print::call(self.engine, &mut self.lent, &request),

@@ -1,0 +1,322 @@
+"""The order book for feed cooperatives, from Python: the proved library over ctypes, nothing else.
+
+`bin/build library` of the repository makes the shared library that this module loads (or name one in BOOK_LIBRARY). x86-64 Linux only.
+A Book owns its numbers and names. Every call is committed and answers its figures, or raises Refused and has changed nothing.
+"""
+
+import ctypes
+import os
+from typing import List, NamedTuple, Union
+
+VERSION = 1  # BOOK_VERSION of include/book.h
+
+_path = os.environ.get("BOOK_LIBRARY") or os.path.join(
+    os.path.dirname(os.path.dirname(os.path.abspath(__file__))), "target", "shared", "libbook.so"
+)
+try:
+    _lib = ctypes.CDLL(_path)
+except OSError as error:
+    raise ImportError(f"{error}; 'bin/build library' makes it") from None
+_lib.book_version.restype = ctypes.c_uint64
+if _lib.book_version() != VERSION:
+    raise ImportError(f"{_path} is version {_lib.book_version()} of the library, this module is for version {VERSION}")
+
+REFUSALS = {
+    1: "the line has no form, or the buffer is too short",
+    2: "the head is out of range, or a length is not what it implies",
+    3: "the book is not new, or a value is out of range",
+    4: "no such warehouse",
+    5: "no such district",
+    6: "no such customer",
+    7: "the date is out of range",
+    8: "amount, carrier, threshold, number of lines, supplying warehouse or quantity out of range",
+    9: "a row or name that the call uses is out of range",
+    10: "nobody has the last name",
+    11: "no order slot, or no history slot, is left",
+    12: "an item is not one of the book's, or its price is 0",
+}
+
+
+class Refused(Exception):
+    """The refusal's number, and its detail: the first offending line of an order at 8 and 12, else 0."""
+
+    def __init__(self, number, detail):
+        super().__init__(f"{number}: {REFUSALS.get(number, '?')}" + (f" (line {detail})" if detail else ""))
+        self.number = number
+        self.detail = detail
+
+
+# ---- Requests and answers. Who is a customer number (int) or a last name (str or bytes). Money is cents.
+
+Who = Union[int, str, bytes]
+
+
+class Line(NamedTuple):
+    item: int
+    supply: int
+    quantity: int
+
+
+class NewOrder(NamedTuple):
+    warehouse: int
+    district: int
+    customer: int
+    date: int
+    lines: List[Line]
+
+
+class Payment(NamedTuple):
+    warehouse: int
+    district: int
+    custwarehouse: int
+    custdistrict: int
+    who: Who
+    date: int
+    amount: int
+
+
+class Delivery(NamedTuple):
+    warehouse: int
+    carrier: int
+    date: int
+
+
+class OrderStatus(NamedTuple):
+    warehouse: int
+    district: int
+    who: Who
+
+
+class StockLevel(NamedTuple):
+    warehouse: int
+    district: int
+    threshold: int
+
+
+class Ordered(NamedTuple):
+    order: int
+    total: int
+
+
+class Paid(NamedTuple):
+    customer: int
+    balance: int
+
+
+class Delivered(NamedTuple):
+    skipped: int
+    orders: List[int]  # of districts 1 to 10, 0 where skipped
+
+
+class ShownLine(NamedTuple):
+    item: int
+    supply: int
+    quantity: int
+    amount: int
+    delivery_date: int  # 0 until delivered
+
+
+class Status(NamedTuple):
+    customer: int
+    balance: int
+    order: int  # 0 where there is none
+    date: int
+    carrier: int  # 0 until delivered
+    lines: List[ShownLine]
+
+
+def date(unix_time):
+    """A date of the book from Unix time; date 1 is 1900-01-01 00:00:00."""
+    return int(unix_time) + 2_208_988_801
+
+
+# ---- The book
+
+class Sizes(NamedTuple):
+    warehouses: int
+    customers: int  # in each district
+    items: int
+    orders: int  # order slots in each district
+    histories: int  # history slots
+
+
+class Row:
+    """A row of the book: its fields by name are the book's own numbers, to read and to set."""
+
+    __slots__ = ("_nums", "_at", "_fields")
+
+    def __init__(self, nums, at, fields):
+        object.__setattr__(self, "_nums", nums)
+        object.__setattr__(self, "_at", at)
+        object.__setattr__(self, "_fields", fields)
+
+    def _place(self, field):
+        try:
+            return self._at + self._fields.index(field)
+        except ValueError:
+            raise AttributeError(f"the row has {', '.join(self._fields)}, not {field}") from None
+
+    def __getattr__(self, field):
+        return self._nums[self._place(field)]
+
+    def __setattr__(self, field, value):
+        if not -(2**63) <= value < 2**63:
+            raise ValueError(f"{value} has no room in 64 bits")
+        self._nums[self._place(field)] = value
+
+
+_WAREHOUSE = ("tax", "ytd")
+_DISTRICT = ("tax", "ytd", "next_order")
+_CUSTOMER = ("credit", "discount", "balance", "ytd_payment", "payment_count", "delivery_count")
+_ITEM = ("price",)
+_STOCK = ("on_hand", "lots", "order_count", "remote_count")
+
+
+class _CLine(ctypes.Structure):
+    _fields_ = [("item", ctypes.c_uint64), ("supply", ctypes.c_uint64), ("quantity", ctypes.c_uint64)]
+
+
+def _u64(value):
+    if not 0 <= value < 2**64:
+        raise ValueError(f"{value} is not a number of a request: 0 to 2^64 - 1")
+    return ctypes.c_uint64(value)
+
+
+def _numbers(values):
+    return [_u64(value) for value in values]
+
+
+def _lines(lines):
+    array = (_CLine * len(lines))(*[_CLine(*_numbers(line)) for line in lines])
+    return [array, ctypes.c_size_t(len(lines))]
+
+
+def _who(who):
+    """Whether by name, the number, the name and its length."""
+    if isinstance(who, int):
+        return [ctypes.c_bool(False), _u64(who), None, ctypes.c_size_t(0)]
+    name = who.encode() if isinstance(who, str) else bytes(who)
+    return [ctypes.c_bool(True), ctypes.c_uint64(0), ctypes.c_char_p(name), ctypes.c_size_t(len(name))]
+
+
+def _answer(call, parameters, figures, *others):
+    """Calls, raises Refused where refused, and answers the figures."""
+    out = (ctypes.c_uint64 * (2 + figures))()
+    call.restype = None
+    call(*parameters, out, *others)
+    if out[0]:
+        raise Refused(out[0], out[1])
+    return out[2:]
+
+
+def _places(sizes, warehouse=1, district=1, customer=1, item=1, order=1, history=1):
+    """How many numbers and name bytes a book of these sizes has, and where the rows of one place start: proved, as the calls are."""
+    return _answer(_lib.book_places, _numbers([*sizes, warehouse, district, customer, item, order, history]), 10)
+
+
+class Book:
+    """A new book: the next order numbers are 1, all else is 0 and the names are spaces. Set the rows and names, then open it."""
+
+    def __init__(self, sizes):
+        self.sizes = Sizes(*sizes)
+        numbers, name_bytes = _places(self.sizes)[:2]
+        self.nums = (ctypes.c_int64 * numbers)(*self.sizes)
+        self.names = (ctypes.c_uint8 * name_bytes)()
+        ctypes.memset(self.names, ord(" "), name_bytes)
+        for warehouse in range(1, self.sizes.warehouses + 1):
+            for district in range(1, 11):
+                self.district(warehouse, district).next_order = 1
+
+    # The rows, counted from 1; a place that the book lacks raises Refused(2).
+
+    def warehouse(self, warehouse):
+        return Row(self.nums, _places(self.sizes, warehouse)[2], _WAREHOUSE)
+
+    def district(self, warehouse, district):
+        return Row(self.nums, _places(self.sizes, warehouse, district)[3], _DISTRICT)
+
+    def customer(self, warehouse, district, customer):
+        return Row(self.nums, _places(self.sizes, warehouse, district, customer)[4], _CUSTOMER)
+
+    def item(self, item):
+        return Row(self.nums, _places(self.sizes, item=item)[5], _ITEM)
+
+    def stock(self, warehouse, item):
+        return Row(self.nums, _places(self.sizes, warehouse, item=item)[6], _STOCK)
+
+    def set_name(self, warehouse, district, customer, last, first):
+        """Last and first name, each of at most 16 bytes 32 to 126; the last name is not empty and starts with no space."""
+        at = _places(self.sizes, warehouse, district, customer)[9]
+        parts = [part.encode("ascii") for part in (last, first)]
+        if any(len(part) > 16 or not all(32 <= byte <= 126 for byte in part) for part in parts) or parts[0][:1] in (b"", b" "):
+            raise ValueError(f"{last!r}, {first!r} is no name of a book")
+        self.names[at : at + 32] = list(parts[0].ljust(16) + parts[1].ljust(16))
+
+    # The calls
+
+    def _lent(self):
+        return [self.nums, ctypes.c_size_t(len(self.nums)), self.names, ctypes.c_size_t(len(self.names))]
+
+    def open(self):
+        """Refused by 3 unless the book is new and in range. It writes nothing."""
+        _answer(_lib.book_opening, self._lent(), 0)
+
+    def new_order(self, warehouse, district, customer, date, lines):
+        order = _numbers([warehouse, district, customer, date])
+        return Ordered(*_answer(_lib.book_new_order, self._lent() + order + _lines(lines), 2))
+
+    def payment(self, warehouse, district, custwarehouse, custdistrict, who, date, amount):
+        places = _numbers([warehouse, district, custwarehouse, custdistrict])
+        balance = (ctypes.c_int64 * 1)()
+        (customer,) = _answer(_lib.book_payment, self._lent() + places + _who(who) + _numbers([date, amount]), 1, balance)
+        return Paid(customer, balance[0])
+
+    def delivery(self, warehouse, carrier, date):
+        orders = (ctypes.c_uint64 * 10)()
+        skipped, _ = _answer(_lib.book_delivery, self._lent() + _numbers([warehouse, carrier, date]), 2, orders)
+        return Delivered(skipped, list(orders))
+
+    def order_status(self, warehouse, district, who):
+        balance = (ctypes.c_int64 * 1)()
+        parameters = self._lent() + _numbers([warehouse, district]) + _who(who)
+        customer, order, date, carrier, start, count = _answer(_lib.book_order_status, parameters, 6, balance)
+        lines = [ShownLine(*self.nums[at : at + 5]) for at in range(start, start + count, 5)]
+        return Status(customer, balance[0], order, date, carrier, lines)
+
+    def stock_level(self, warehouse, district, threshold):
+        """How many items of the last 20 orders have less on hand than the threshold."""
+        return _answer(_lib.book_stock_level, self._lent() + _numbers([warehouse, district, threshold]), 1)[0]
+
+    def carry_out(self, request):
+        """A request of any kind, as read_line gives it."""
+        return getattr(self, _KINDS[type(request)])(*request)
+
+
+_KINDS = {NewOrder: "new_order", Payment: "payment", Delivery: "delivery", OrderStatus: "order_status", StockLevel: "stock_level"}
+
+
+# ---- Request lines
+
+def read_line(line):
+    """The request that a line of bytes holds, its byte 10 included; Refused(1) where it has no form."""
+    lines, name = (_CLine * 15)(), (ctypes.c_uint8 * 16)()
+    letter, *six, named, number, count, length = _answer(_lib.book_read_line, [ctypes.c_char_p(line), ctypes.c_size_t(len(line))], 11, lines, name)
+    who = bytes(name[:length]).decode("ascii") if named else number
+    if letter == ord("N"):
+        return NewOrder(*six[:4], [Line(l.item, l.supply, l.quantity) for l in lines[:count]])
+    if letter == ord("P"):
+        return Payment(*six[:4], who, *six[4:])
+    if letter == ord("D"):
+        return Delivery(*six[:3])
+    return OrderStatus(*six[:2], who) if letter == ord("S") else StockLevel(*six[:3])
+
+
+def write_line(request):
+    """The line of a request, its byte 10 included; Refused(1) where it has no form."""
+    kind = _KINDS[type(request)]
+    parameters = []
+    for field, value in request._asdict().items():
+        parameters += _lines(value) if field == "lines" else _who(value) if field == "who" else [_u64(value)]
+    buffer = (ctypes.c_uint8 * 541)()
+    (length,) = _answer(getattr(_lib, "book_write_" + kind), [buffer, ctypes.c_size_t(541)] + parameters, 1)
+    return bytes(buffer[:length])

@@ -1,0 +1,355 @@
+/* The headers tried as a caller would: the layout against the proved `layout`, the ranges against opening and the calls, the columns against what the
+   calls write, the calls on a struct book against the flat functions, NULL with length 0. Compiles as C99 and as C++11. */
+#include <stdio.h>
+#include <stdlib.h>
+#include "book.h"
+#include "book_layout.h"
+
+static unsigned long tried, wrong;
+
+static void see(bool ok, const char *what)
+{
+    tried++;
+    if (ok) return;
+    wrong++;
+    if (wrong <= 20) printf("header: wrong: %s\n", what);
+}
+
+/* A number below n, of a small generator that is the same on every machine. */
+static uint64_t below(uint64_t n)
+{
+    static uint64_t x = 88172645463325252u;
+    x ^= x << 13, x ^= x >> 7, x ^= x << 17;
+    return x % n;
+}
+
+/* 1 to high, the ends often; sometimes just outside. */
+static uint64_t near(uint64_t high)
+{
+    switch (below(16)) {
+    case 0: return 0;
+    case 1: return high + 1;
+    case 2: return 1;
+    case 3: return high;
+    case 4: return below(4) ? 1 + below(high) : UINT64_MAX - below(3);
+    default: return 1 + below(high);
+    }
+}
+
+static bool one_to(uint64_t x, uint64_t high) { return 1 <= x && x <= high; }
+
+/* ---- The layout ---- */
+
+static void layout(void)
+{
+    struct book_sizes s;
+    uint64_t out[12], w, d, c, i, o, h;
+    bool ok;
+    s.warehouses = near(BOOK_MAX_WAREHOUSES), s.customers = near(BOOK_MAX_CUSTOMERS), s.items = near(BOOK_MAX_ITEMS);
+    s.orders = near(BOOK_MAX_ORDERS), s.histories = near(BOOK_MAX_HISTORIES);
+    ok = book_sizes_ok(&s);
+    w = near(ok ? s.warehouses : 5), d = near(BOOK_DISTRICTS), c = near(ok ? s.customers : 5), i = near(ok ? s.items : 5);
+    o = near(ok ? s.orders : 5), h = near(ok ? s.histories : 5);
+    ok = ok && one_to(w, s.warehouses) && one_to(d, BOOK_DISTRICTS) && one_to(c, s.customers) && one_to(i, s.items) && one_to(o, s.orders) &&
+         one_to(h, s.histories);
+    memset(out, 0x5a, sizeof out);
+    book_places(s.warehouses, s.customers, s.items, s.orders, s.histories, w, d, c, i, o, h, out);
+    see(out[0] == (ok ? BOOK_COMMITTED : BOOK_BAD_HEAD) && out[1] == 0, "sizes and places in range");
+    if (!ok) {
+        for (int k = 2; k < 12; k++) see(out[k] == 0, "figures of refused places");
+        return;
+    }
+    see(book_numbers(&s) == out[2], "numbers");
+    see(book_name_bytes(&s) == out[3], "name bytes");
+    see(book_warehouse_at(&s, w) == out[4], "warehouse row");
+    see(book_district_at(&s, w, d) == out[5], "district row");
+    see(book_customer_at(&s, w, d, c) == out[6], "customer row");
+    see(book_item_at(&s, i) == out[7], "item row");
+    see(book_stock_at(&s, w, i) == out[8], "stock row");
+    see(book_order_at(&s, w, d, o) == out[9], "order row");
+    see(book_history_at(&s, h) == out[10], "history row");
+    see(book_name_at(&s, w, d, c) == out[11], "name");
+}
+
+/* ---- A small book: W 2, C 3, I 4, O 5, H 6; everything set ---- */
+
+static const struct book_sizes small = {2, 3, 4, 5, 6};
+static int64_t nums[8608], saved[8608];
+static uint8_t names[2 * 10 * 3 * BOOK_NAME_WIDTH];
+
+static struct book fresh(void)
+{
+    uint64_t w, d, c, i;
+    book_blank(&small, nums, names);
+    for (w = 1; w <= small.warehouses; w++) {
+        nums[book_warehouse_at(&small, w) + BOOK_WAREHOUSE_TAX] = 1000;
+        for (i = 1; i <= small.items; i++) nums[book_stock_at(&small, w, i) + BOOK_STOCK_ON_HAND] = 50;
+        for (d = 1; d <= BOOK_DISTRICTS; d++) {
+            nums[book_district_at(&small, w, d) + BOOK_DISTRICT_TAX] = 500;
+            for (c = 1; c <= small.customers; c++) {
+                nums[book_customer_at(&small, w, d, c) + BOOK_CUSTOMER_DISCOUNT] = 100;
+                see(book_set_name(&small, names, w, d, c, c == 3 ? "BERG" : "ALM", "EVA"), "a name set");
+            }
+        }
+    }
+    for (i = 1; i <= small.items; i++) nums[book_item_at(&small, i) + BOOK_ITEM_PRICE] = (int64_t)(100 * i);
+    return book_lent(nums, book_numbers(&small), names, book_name_bytes(&small));
+}
+
+/* Opening with one number set: accepted just within low to high. */
+static void opens(size_t at, int64_t low, int64_t high, const char *what)
+{
+    int64_t tries[6] = {low, high, low - 1, high + 1, INT64_MIN, INT64_MAX};
+    struct book book = fresh();
+    for (int k = 0; k < 6; k++) {
+        nums[at] = tries[k];
+        see((book_open(&book).refusal == BOOK_COMMITTED) == (k < 2), what);
+    }
+}
+
+static void masters(void)
+{
+    const struct book_sizes *s = &small;
+    opens(book_warehouse_at(s, 2) + BOOK_WAREHOUSE_TAX, 0, BOOK_MAX_RATE, "warehouse tax");
+    opens(book_warehouse_at(s, 2) + BOOK_WAREHOUSE_YTD, 0, 0, "warehouse money");
+    opens(book_district_at(s, 2, 3) + BOOK_DISTRICT_TAX, 0, BOOK_MAX_RATE, "district tax");
+    opens(book_district_at(s, 2, 3) + BOOK_DISTRICT_YTD, 0, 0, "district money");
+    opens(book_district_at(s, 2, 3) + BOOK_DISTRICT_NEXT_ORDER, 1, 1, "next order number");
+    opens(book_customer_at(s, 2, 10, 3) + BOOK_CUSTOMER_CREDIT, 0, BOOK_MAX_CREDIT, "credit");
+    opens(book_customer_at(s, 2, 10, 3) + BOOK_CUSTOMER_DISCOUNT, 0, BOOK_MAX_RATE, "discount");
+    for (int k = BOOK_CUSTOMER_BALANCE; k < BOOK_CUSTOMER_WIDTH; k++) opens(book_customer_at(s, 1, 1, 2) + (size_t)k, 0, 0, "customer at opening");
+    opens(book_item_at(s, 4) + BOOK_ITEM_PRICE, 0, BOOK_MAX_PRICE, "price");
+    opens(book_stock_at(s, 2, 4) + BOOK_STOCK_ON_HAND, 0, BOOK_MAX_ON_HAND, "on hand");
+    for (int k = BOOK_STOCK_LOTS; k < BOOK_STOCK_WIDTH; k++) opens(book_stock_at(s, 1, 1) + (size_t)k, 0, 0, "stock at opening");
+    for (int byte = 0; byte < 256; byte++)
+        for (size_t at = 0; at < BOOK_NAME_WIDTH; at += BOOK_NAME_WIDTH - 1) {
+            struct book book = fresh();
+            names[book_name_at(s, 2, 10, 3) + at] = (uint8_t)byte;
+            see((book_open(&book).refusal == BOOK_COMMITTED) ==
+                    (BOOK_MIN_NAME_BYTE <= byte && byte <= BOOK_MAX_NAME_BYTE && !(at == 0 && byte == ' ')),
+                "a name byte");
+        }
+    {
+        uint8_t keep[sizeof names];
+        fresh();
+        memcpy(keep, names, sizeof names);
+        see(!book_set_name(s, names, 1, 1, 1, "", "EVA") && !book_set_name(s, names, 1, 1, 1, " ALM", "EVA") &&
+                !book_set_name(s, names, 1, 1, 1, "SEVENTEEN LETTERS", "EVA") && !book_set_name(s, names, 1, 1, 1, "ALM", "EV\x7f") &&
+                !book_set_name(s, names, 1, 1, 1, "\xc3\x84LM", "EVA") && memcmp(keep, names, sizeof names) == 0,
+            "names that are none");
+    }
+}
+
+/* ---- Requests: each range by both ends and just outside ---- */
+
+static const struct book_line one = {1, 1, 1};
+
+static struct book_order_request order_of(uint64_t w, uint64_t d, uint64_t c, const struct book_line *lines, size_t lines_len)
+{
+    struct book_order_request q;
+    memset(&q, 0, sizeof q);
+    q.warehouse = w, q.district = d, q.customer = c, q.date = 100, q.lines = lines, q.lines_len = lines_len;
+    return q;
+}
+
+static void ranges(void)
+{
+    struct book_line lines[BOOK_MAX_LINES + 1];
+    uint64_t ends[4][2];
+    for (int k = 0; k <= BOOK_MAX_LINES; k++) lines[k] = one;
+    for (size_t n = 0; n <= BOOK_MAX_LINES + 1; n++) {
+        struct book book = fresh();
+        struct book_order_request q = order_of(1, 1, 1, lines, n);
+        struct book_order_answer a = book_order(&book, &q);
+        see(a.refusal == (BOOK_MIN_LINES <= n && n <= BOOK_MAX_LINES ? BOOK_COMMITTED : BOOK_BAD_VALUE) && a.detail == 0, "number of lines");
+    }
+    for (uint64_t n = 0; n <= BOOK_MAX_QUANTITY + 1; n++) {
+        struct book book = fresh();
+        struct book_order_request q = order_of(1, 1, 1, lines, 2);
+        struct book_order_answer a;
+        lines[1].quantity = n;
+        a = book_order(&book, &q);
+        see(BOOK_MIN_QUANTITY <= n && n <= BOOK_MAX_QUANTITY ? a.refusal == BOOK_COMMITTED : a.refusal == BOOK_BAD_VALUE && a.detail == 2, "quantity");
+    }
+    ends[0][0] = BOOK_MIN_DATE, ends[0][1] = BOOK_MAX_DATE, ends[1][0] = BOOK_MIN_CARRIER, ends[1][1] = BOOK_MAX_CARRIER;
+    ends[2][0] = BOOK_MIN_AMOUNT, ends[2][1] = BOOK_MAX_AMOUNT, ends[3][0] = BOOK_MIN_THRESHOLD, ends[3][1] = BOOK_MAX_THRESHOLD;
+    for (int k = 0; k < 4; k++)
+        for (int e = 0; e < 4; e++) {
+            uint64_t x = e == 0 ? ends[k][0] : e == 1 ? ends[k][1] : e == 2 ? ends[k][0] - 1 : ends[k][1] + 1;
+            uint64_t asked = k == 0 ? BOOK_BAD_DATE : BOOK_BAD_VALUE, refusal;
+            struct book book = fresh();
+            struct book_pay_request pay;
+            struct book_deliver_request deliver;
+            struct book_level_request level;
+            memset(&pay, 0, sizeof pay), memset(&deliver, 0, sizeof deliver), memset(&level, 0, sizeof level);
+            pay.warehouse = pay.district = pay.custwarehouse = pay.custdistrict = 1, pay.who = book_by_number(1);
+            pay.date = k == 0 ? x : 1, pay.amount = k == 2 ? x : 100;
+            deliver.warehouse = 1, deliver.carrier = k == 1 ? x : 1, deliver.date = k == 0 ? x : 1;
+            level.warehouse = level.district = 1, level.threshold = x;
+            refusal = k == 1 ? book_deliver(&book, &deliver).refusal : k == 3 ? book_level(&book, &level).refusal : book_pay(&book, &pay).refusal;
+            see(refusal == (e < 2 ? (uint64_t)BOOK_COMMITTED : asked), "a range of a request");
+        }
+    see(book_date(0) == UINT64_C(2208988801) && book_date(-INT64_C(2208988800)) == BOOK_MIN_DATE && book_date(INT64_C(4133980799)) == BOOK_MAX_DATE, "dates");
+}
+
+/* ---- What the calls write, at the columns by name ---- */
+
+static int64_t at(size_t row, int column) { return nums[row + (size_t)column]; }
+
+static void story(void)
+{
+    const struct book_sizes *s = &small;
+    struct book book = fresh();
+    struct book_line lines[2] = {{1, 1, 10}, {4, 2, 3}};
+    struct book_order_request order = order_of(1, 2, 3, lines, 2);
+    struct book_order_answer ordered = book_order(&book, &order);
+    size_t row = book_order_at(s, 1, 2, 1), line = row + BOOK_ORDER_LINES + BOOK_LINE_WIDTH;
+    struct book_deliver_request deliver;
+    struct book_deliver_answer delivered;
+    struct book_pay_request pay;
+    struct book_pay_answer paid;
+    struct book_status_request ask;
+    struct book_status_answer status;
+    struct book_shown_line shown;
+    struct book_level_request low;
+    memset(&deliver, 0, sizeof deliver), memset(&pay, 0, sizeof pay), memset(&ask, 0, sizeof ask), memset(&low, 0, sizeof low);
+
+    /* 1,000 + 1,200 cents, 1 in 100 off, 15 in 100 taxes: 2,504.7 */
+    see(ordered.refusal == BOOK_COMMITTED && ordered.detail == 0 && ordered.order == 1 && ordered.total == 2504, "an order");
+    see(at(row, BOOK_ORDER_CUSTOMER) == 3 && at(row, BOOK_ORDER_ENTRY_DATE) == 100 && at(row, BOOK_ORDER_CARRIER) == 0 &&
+            at(row, BOOK_ORDER_LINE_COUNT) == 2 && at(row, BOOK_ORDER_ALL_LOCAL) == 0 && at(row, BOOK_ORDER_WAITING) == 1,
+        "the order's row");
+    see(at(line, BOOK_LINE_ITEM) == 4 && at(line, BOOK_LINE_SUPPLY) == 2 && at(line, BOOK_LINE_QUANTITY) == 3 && at(line, BOOK_LINE_AMOUNT) == 1200 &&
+            at(line, BOOK_LINE_DELIVERY_DATE) == 0,
+        "the order's second line");
+    see(at(book_district_at(s, 1, 2), BOOK_DISTRICT_NEXT_ORDER) == 2, "next order number");
+    row = book_stock_at(s, 2, 4);
+    see(at(row, BOOK_STOCK_ON_HAND) == 47 && at(row, BOOK_STOCK_LOTS) == 3 && at(row, BOOK_STOCK_ORDER_COUNT) == 1 &&
+            at(row, BOOK_STOCK_REMOTE_COUNT) == 1,
+        "stock");
+
+    deliver.warehouse = 1, deliver.carrier = 7, deliver.date = 200;
+    delivered = book_deliver(&book, &deliver);
+    see(delivered.refusal == BOOK_COMMITTED && delivered.skipped == 9 && delivered.mark == 0x3fd && delivered.orders[1] == 1 && delivered.orders[0] == 0,
+        "a delivery");
+
+    pay.warehouse = 2, pay.district = 5, pay.custwarehouse = 1, pay.custdistrict = 2, pay.who = book_by_name("BERG"), pay.date = 300, pay.amount = 700;
+    paid = book_pay(&book, &pay);
+    see(paid.refusal == BOOK_COMMITTED && paid.customer == 3 && paid.balance == 1500, "a payment");
+    row = book_history_at(s, 1);
+    see(at(row, BOOK_HISTORY_CUSTOMER) == 3 && at(row, BOOK_HISTORY_CUSTDISTRICT) == 2 && at(row, BOOK_HISTORY_CUSTWAREHOUSE) == 1 &&
+            at(row, BOOK_HISTORY_DISTRICT) == 5 && at(row, BOOK_HISTORY_WAREHOUSE) == 2 && at(row, BOOK_HISTORY_DATE) == 300 &&
+            at(row, BOOK_HISTORY_AMOUNT) == 700 && nums[BOOK_HEAD_HISTORY_COUNT] == 1,
+        "history");
+    row = book_customer_at(s, 1, 2, 3);
+    see(at(row, BOOK_CUSTOMER_BALANCE) == 1500 && at(row, BOOK_CUSTOMER_YTD_PAYMENT) == 700 && at(row, BOOK_CUSTOMER_PAYMENT_COUNT) == 1 &&
+            at(row, BOOK_CUSTOMER_DELIVERY_COUNT) == 1,
+        "customer");
+    see(at(book_warehouse_at(s, 2), BOOK_WAREHOUSE_YTD) == 700 && at(book_district_at(s, 2, 5), BOOK_DISTRICT_YTD) == 700, "money to date");
+
+    ask.warehouse = 1, ask.district = 2, ask.who = book_by_number(3);
+    status = book_status(&book, &ask);
+    see(status.refusal == BOOK_COMMITTED && status.customer == 3 && status.balance == 1500 && status.order == 1 && status.date == 100 &&
+            status.carrier == 7 && status.lines_len == 2 && status.lines == nums + book_order_at(s, 1, 2, 1) + BOOK_ORDER_LINES,
+        "a status");
+    shown = book_status_line(&status, 1);
+    see(shown.item == 4 && shown.supply == 2 && shown.quantity == 3 && shown.amount == 1200 && shown.delivery_date == 200, "a shown line");
+    ask.who = book_by_number(1), status = book_status(&book, &ask);
+    see(status.refusal == BOOK_COMMITTED && status.customer == 1 && status.order == 0 && status.lines == NULL && status.lines_len == 0, "no order");
+
+    low.warehouse = 1, low.district = 2, low.threshold = 20;
+    see(book_level(&book, &low).refusal == BOOK_COMMITTED && book_level(&book, &low).count == 0, "a level");
+    nums[book_stock_at(s, 1, 4) + BOOK_STOCK_ON_HAND] = 19;
+    see(book_level(&book, &low).count == 1, "a level of one");
+    see(book_open(&book).refusal == BOOK_NOT_NEW, "a book in use");
+}
+
+/* ---- Refusals by name, and that they leave the book; NULL with length 0 ---- */
+
+static void refused(void)
+{
+    struct book book = fresh(), empty;
+    struct book_line none = {5, 1, 1};
+    struct book_order_request q = order_of(3, 1, 1, &one, 1), null_lines = order_of(1, 1, 1, NULL, 0), no_item = order_of(1, 1, 1, &none, 1);
+    struct book_pay_request pay;
+    struct book_status_request ask;
+    memset(&empty, 0, sizeof empty), memset(&pay, 0, sizeof pay), memset(&ask, 0, sizeof ask);
+    memcpy(saved, nums, sizeof nums);
+    see(book_order(&book, &q).refusal == BOOK_NO_WAREHOUSE, "no warehouse");
+    q = order_of(1, 11, 1, &one, 1);
+    see(book_order(&book, &q).refusal == BOOK_NO_DISTRICT, "no district");
+    q = order_of(1, 1, 4, &one, 1);
+    see(book_order(&book, &q).refusal == BOOK_NO_CUSTOMER, "no customer");
+    see(book_order(&book, &no_item).refusal == BOOK_NO_ITEM && book_order(&book, &no_item).detail == 1, "no item");
+    see(book_order(&book, &null_lines).refusal == BOOK_BAD_VALUE && book_order(&book, &null_lines).detail == 0, "NULL for no lines");
+    ask.warehouse = ask.district = 1, ask.who.named = true;
+    see(book_status(&book, &ask).refusal == BOOK_NOBODY, "NULL for an empty name");
+    pay.warehouse = pay.district = pay.custwarehouse = pay.custdistrict = 1, pay.who = book_by_name("NOBODY"), pay.date = 1, pay.amount = 100;
+    see(book_pay(&book, &pay).refusal == BOOK_NOBODY, "nobody");
+    see(book_open(&empty).refusal == BOOK_BAD_HEAD && book_order(&empty, &q).refusal == BOOK_BAD_HEAD && book_pay(&empty, &pay).refusal == BOOK_BAD_HEAD &&
+            book_status(&empty, &ask).refusal == BOOK_BAD_HEAD,
+        "NULL for a book");
+    see(memcmp(saved, nums, sizeof nums) == 0, "a refused call changes nothing");
+    nums[book_customer_at(&small, 1, 1, 1) + BOOK_CUSTOMER_BALANCE] = BOOK_MAX_MONEY + 1;
+    q = order_of(1, 1, 1, &one, 1);
+    see(book_order(&book, &q).refusal == BOOK_BAD_ROW, "a damaged row");
+    book = fresh();
+    for (int k = 0; k < 5; k++) see(book_order(&book, &q).refusal == BOOK_COMMITTED, "five orders");
+    see(book_order(&book, &q).refusal == BOOK_NO_ROOM, "no slot");
+}
+
+/* ---- Request lines ---- */
+
+static bool reads(const char *text, struct book_request *r) { return book_read((const uint8_t *)text, strlen(text), r).refusal == BOOK_COMMITTED; }
+
+static bool wrote(const uint8_t *buffer, struct book_write_answer a, const char *text)
+{
+    return a.refusal == BOOK_COMMITTED && a.length == strlen(text) && memcmp(buffer, text, strlen(text)) == 0 && buffer[a.length] == 0xee;
+}
+
+static void lines(void)
+{
+    struct book_request r;
+    struct book_line many[16];
+    struct book_order_request q;
+    uint8_t buffer[600];
+    const char *n = "N\t1\t2\t3\t100\t1\t1\t10\t4\t2\t3\n", *p = "P\t2\t5\t1\t2\t=BERG\t300\t700\n", *d = "D\t1\t7\t200\n", *st = "S\t1\t2\t#3\n", *l = "L\t1\t2\t20\n";
+    memset(buffer, 0xee, sizeof buffer);
+    see(reads(n, &r) && r.letter == 'N' && r.order.customer == 3 && r.order.lines_len == 2 && r.order.lines[1].item == 4 && r.order.lines[1].supply == 2 &&
+            r.order.lines[1].quantity == 3 && r.lines[2].item == 0 && wrote(buffer, book_write_order(buffer, sizeof buffer, &r.order), n),
+        "an order's line");
+    memset(buffer, 0xee, sizeof buffer);
+    see(reads(p, &r) && r.letter == 'P' && r.pay.custdistrict == 2 && r.pay.who.named && r.pay.who.name_len == 4 && memcmp(r.pay.who.name, "BERG", 4) == 0 &&
+            r.pay.date == 300 && r.pay.amount == 700 && wrote(buffer, book_write_pay(buffer, sizeof buffer, &r.pay), p),
+        "a payment's line");
+    memset(buffer, 0xee, sizeof buffer);
+    see(reads(d, &r) && r.letter == 'D' && r.deliver.carrier == 7 && r.deliver.date == 200 && wrote(buffer, book_write_deliver(buffer, sizeof buffer, &r.deliver), d),
+        "a delivery's line");
+    memset(buffer, 0xee, sizeof buffer);
+    see(reads(st, &r) && r.letter == 'S' && r.status.district == 2 && !r.status.who.named && r.status.who.number == 3 &&
+            wrote(buffer, book_write_status(buffer, sizeof buffer, &r.status), st),
+        "a status's line");
+    memset(buffer, 0xee, sizeof buffer);
+    see(reads(l, &r) && r.letter == 'L' && r.level.threshold == 20 && wrote(buffer, book_write_level(buffer, sizeof buffer, &r.level), l), "a level's line");
+    see(!reads("D\t1\t7\t200", &r) && r.letter == 0 && !reads("", &r) && book_read(NULL, 0, &r).refusal == BOOK_NO_FORM, "lines without a form");
+    for (int k = 0; k < 16; k++) many[k].item = many[k].supply = many[k].quantity = UINT64_C(9999999999);
+    memset(buffer, 0xee, sizeof buffer);
+    q = order_of(UINT64_C(9999999999), UINT64_C(9999999999), UINT64_C(9999999999), many, 15), q.date = UINT64_C(9999999999);
+    see(book_write_order(buffer, 541, &q).length == 541, "the longest line");
+    memset(buffer, 0xee, sizeof buffer);
+    see(book_write_order(buffer, 540, &q).refusal == BOOK_NO_FORM && buffer[0] == 0xee, "a buffer one short");
+    q.lines_len = 16;
+    see(book_write_order(buffer, sizeof buffer, &q).refusal == BOOK_NO_FORM && buffer[0] == 0xee, "an order of 16 lines");
+    q.lines = NULL, q.lines_len = 0;
+    see(book_write_order(buffer, sizeof buffer, &q).refusal == BOOK_NO_FORM && book_write_order(NULL, 0, &q).refusal == BOOK_NO_FORM, "an order without lines");
+}
+
+int main(void)
+{
+    see(book_version() == BOOK_VERSION, "version");
+    see(book_numbers(&small) == sizeof nums / sizeof *nums && book_name_bytes(&small) == sizeof names, "the small book's room");
+    for (int k = 0; k < 200000; k++) layout();
+    masters(), ranges(), story(), refused(), lines();
+    printf("header: %lu facts, %lu wrong\n", tried, wrong);
+    return wrong != 0;
+}
