@@ -175,7 +175,8 @@ fn feed(b: &mut [i64], names: &[u8], line: &mut [u8], len: usize, block: &[u8]) 
     }
 }
 
-// Standard input answered line by line, until it ends, cannot be read, or the output takes no more; at its end a last line without its own is answered too. True where all was read and every answer taken.
+// Standard input answered line by line, until it ends, cannot be read, or the output takes no more; at its end a last line without its own
+// is answered too. True where all was read and every answer taken.
 fn serve(b: &mut [i64], names: &[u8]) -> bool
     ensures { λ _. ⌜ Served (lent (now (b .entry)) (now (names .entry))) (lent (now (b .exit)) (now (names .entry))) ⌝ }
 {
