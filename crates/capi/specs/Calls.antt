@@ -1,14 +1,12 @@
 -- What the contract of each exported function says: the numbers put out, and what is left of the slices lent to be written; every book and every request,
 -- refused ones included.
 -- Assumes nothing.
-use Rattle.model.specs.declared.Dims.{Dims}
-use Rattle.places.specs.declared.Spot.{Spot}
-use Rattle.places.specs.Places.{placesOut}
 use mathlib.Core.Path.{_≡_}
 use mathlib.Core.List.{List}
 use Prim.Native.Nat.{ℕ, _+_, _≤_}
 use lib.IntN.{ℤ}
 use lib.ListN.{length, getD}
+use Rattle.model.specs.declared.Dims.{Dims}
 use Rattle.model.specs.declared.Line.{Line}
 use Rattle.model.specs.declared.NewOrder.{NewOrder}
 use Rattle.model.specs.declared.Payment.{Payment}
@@ -27,6 +25,8 @@ use Rattle.model.specs.Request.{Request, linesOf}
 use Rattle.model.specs.RequestLine.{writeAnswer, writeBuffer}
 use Rattle.flat.specs.Flat.{bareOut, oneOut, twoOut, balanceOut, statusOut}
 use Rattle.flat.specs.FlatLines.{readOut}
+use Rattle.places.specs.declared.Spot.{Spot}
+use Rattle.places.specs.Places.{placesOut}
 
 pub record OpeningC (b : List ℤ) (names : List ℕ) (out : List ℕ) : Type 0 where
   pub answers : out ≡ bareOut (openingAnswer b names)

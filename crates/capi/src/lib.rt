@@ -1,4 +1,5 @@
 // The calls for C and Rust: slices as pointer and length, answers as flat numbers that the caller lends.
+ghost use mathlib.Core.Path.{_≡_};
 ghost use mathlib.Core.List.{List, []};
 ghost use Rattle.model.specs.Names.{whoOf};
 ghost use Rattle.flat.specs.Flat.{selectionOf, newOrderOf, paymentOf, deliveryOf, statusOf, stockLevelOf};
@@ -16,6 +17,14 @@ use model::NewOrder;
 use model::OrderStatus;
 use model::Payment;
 use model::StockLevel;
+
+// The version of these functions: BOOK_VERSION of include/book.h.
+#[no_mangle]
+pub extern "C" fn book_version() -> u64
+    ensures { λ r. ⌜ r ≡ 1 ⌝ }
+{
+    1
+}
 
 // Opening.
 #[no_mangle]
