@@ -13,6 +13,7 @@ use Rattle.model.specs.declared.WriteOutcome.the-variants as WriteCase
 use Rattle.model.specs.Request.{newOrder}
 use Rattle.model.specs.RequestLine.{hasForm, refused1}
 use Rattle.records.specs.Gathered.{Gathered, front}
+use Rattle.records.proofs.Arrays.{few-lines}
 use Rattle.writing.specs.Writing.{Written}
 use Rattle.writing.proofs.Putting.{order-few, unwritten}
 
@@ -32,4 +33,4 @@ in-array e h = omega arith
 pub as-many : (b left : List ℕ) (o : WriteOutcome) (q : NewOrder) (l : Lines) (ls : List Line) → l .count ≤ 15 → Gathered ls l
     → Written b left o (newOrder q (front (l .count) l)) → Written b left o (newOrder q ls)
 as-many b left o q l ls h g w =
-    let e : front (l .count) l ≡ ls = ap (λ (n : ℕ). front n l) (g .count-is) ∙ g .lines-are (omega (arith, g .count-is)) in rw e at w
+    let e : front (l .count) l ≡ ls = ap (λ (n : ℕ). front n l) (g .count-is) ∙ few-lines ls l g (omega (arith, g .count-is)) in rw e at w

@@ -4,11 +4,10 @@ use mathlib.Core.Path.{_≡_, refl, sym, ap, _∙_}
 use mathlib.Core.List.{List, [], _∷_, _++_}
 use Prim.Native.Nat.{ℕ, zero, suc, _+_, _≤_, _<_}
 use native.Mathlib.Nat.{le-of-suc-le-suc, not-suc-le-zero}
-use native.Mathlib.Decide.{decLt}
 use native.Mathlib.Numerals.{add-one}
 use native.Mathlib.Omega.{arith}
-use lib.ListN.{length, getD, take, set, length-set}
-use lib.Seq.{take-all, take-length, take-suc, take-suc-set, take-set-le, set-getD}
+use lib.ListN.{length, getD, take, set, replicate, length-set, length-append, length-replicate}
+use lib.Seq.{take-all, take-take, take-suc, take-suc-set, take-append-seam, set-getD}
 use Rattle.model.specs.declared.Line.{Line}
 use Rattle.model.specs.declared.Lines.{Lines}
 use Rattle.model.specs.Request.{linesOf, lineAt}
@@ -49,6 +48,29 @@ pub listed-all : (is ss qs : List ℕ) (ls : List Line) (i : ℕ) → 15 ≤ i �
 listed-all is ss qs ls i h a b c l e =
     rw (take-all i ls (omega arith), take-all i is (omega arith), take-all i ss (omega arith), take-all i qs (omega arith)) at e
 
+-- past their end lines are zeros
+none-left : (m i : ℕ) → getD (replicate m noLine) i noLine ≡ noLine
+none-left zero i = refl
+none-left (suc m) zero = refl
+none-left (suc m) (suc i) = none-left m i
+
+past-end : (ls : List Line) (i m : ℕ) → getD (ls ++ replicate m noLine) i noLine ≡ getD ls i noLine
+past-end [] i m = none-left m i
+past-end (x ∷ ls) zero m = refl
+past-end (x ∷ ls) (suc i) m = past-end ls i m
+
+-- the front of the arrays is the front of their lines
+lines-take : (n : ℕ) (is ss qs : List ℕ) → linesOf (take n is) (take n ss) (take n qs) ≡ take n (linesOf is ss qs)
+unfolding linesOf
+lines-take zero is ss qs = refl
+lines-take (suc n) [] ss qs = refl
+lines-take (suc n) (i ∷ is) [] qs = refl
+lines-take (suc n) (i ∷ is) (s ∷ ss) [] = refl
+lines-take (suc n) (i ∷ is) (s ∷ ss) (q ∷ qs) = ap (λ (ls : List Line). record { item = i; supply = s; quantity = q } ∷ ls) (lines-take n is ss qs)
+
+front-take : (n : ℕ) (l : Lines) → front n l ≡ take n (linesOf (l .items) (l .supplies) (l .quantities))
+front-take n l = lines-take n (l .items) (l .supplies) (l .quantities)
+
 -- ── what is gathered when line i is next ──
 abbrev pub firstOf : List Line → ℕ → Lines
 firstOf ls zero = noLines (length ls)
@@ -69,32 +91,36 @@ module _ (ls : List Line) where
         quantities = rw (length-set (firstOf ls i .quantities) i (getD ls i noLine .quantity)) (h .quantities);
       }
 
-  -- one line more
-  front-more : (i n : ℕ) → n ≤ suc i → i < 15 → n ≤ length ls → ((m : ℕ) → m ≤ i → m ≤ length ls → front m (firstOf ls i) ≡ take m ls) → Dec (i < n) → front n (firstOf ls (suc i)) ≡ take n ls
-  front-more i n h g e before (no p) =
-      let le : n ≤ i = omega arith in
+  -- the lines of i turns
+  front-first : (i : ℕ) → i ≤ 15 → front i (firstOf ls i) ≡ take i (ls ++ replicate 15 noLine)
+  unfolding linesOf
+  front-first zero h = refl
+  front-first (suc i) h =
       let l = firstOf ls i in
       let x = getD ls i noLine in
-      rw (take-set-le n (l .items) i (x .item) le, take-set-le n (l .supplies) i (x .supply) le, take-set-le n (l .quantities) i (x .quantity) le) (before n le e)
-  front-more i n h g e before (yes p) =
-      let last : n ≡ suc i = omega arith in
-      let l = firstOf ls i in
       let r = room-first i in
       let v : Within (suc i) (l .items) (l .supplies) (l .quantities) =
       record { items = omega (arith, r .items); supplies = omega (arith, r .supplies); quantities = omega (arith, r .quantities) } in
-      rw last
-      (front-set i (l .items) (l .supplies) (l .quantities) (getD ls i noLine) v
-      ∙ ap (λ (xs : List Line). xs ++ (getD ls i noLine ∷ [])) (before i (omega arith) (omega arith))
-      ∙ sym (take-suc ls i noLine (omega arith)))
-
-  front-first : (i n : ℕ) → n ≤ i → i ≤ 15 → n ≤ length ls → front n (firstOf ls i) ≡ take n ls
-  unfolding linesOf
-  front-first zero n h g e = let z : n ≡ 0 = omega arith in rw z
-  front-first (suc i) n h g e = front-more i n h g e (λ m p q. front-first i m p (omega arith) q) (decLt i n)
+      let inside : i < length (ls ++ replicate 15 noLine) = rw (length-append, length-replicate) (omega arith) in
+      front-set i (l .items) (l .supplies) (l .quantities) x v
+      ∙ ap (λ (xs : List Line). xs ++ (x ∷ [])) (front-first i (omega arith))
+      ∙ ap (λ (y : Line). take i (ls ++ replicate 15 noLine) ++ (y ∷ [])) (sym (past-end ls i 15))
+      ∙ sym (take-suc (ls ++ replicate 15 noLine) i noLine inside)
 
   all-gathered : Gathered ls (firstOf ls 15)
-  all-gathered = record { count-is = count-first 15; lines-are = λ h. front-first 15 (length ls) h (omega arith) (omega arith) ∙ take-length ls }
+  all-gathered = record { count-is = count-first 15; lines-are = front-first 15 (omega arith) }
 
   -- at the loop's end
   pub gathered-at : (i : ℕ) → i ≤ 15 → 15 ≤ i → Gathered ls (firstOf ls i)
   gathered-at i h g = let e : i ≡ 15 = omega arith in rw e all-gathered
+
+-- where there are at most 15 lines, the front of the arrays holds all of them and nothing else
+pub few-lines : (ls : List Line) (l : Lines) → Gathered ls l → length ls ≤ 15 → front (length ls) l ≡ ls
+few-lines ls l g h =
+    let n = length ls in
+    let pad = ls ++ replicate 15 noLine in
+    front-take n l
+    ∙ sym (take-take n 15 (linesOf (l .items) (l .supplies) (l .quantities)) h)
+    ∙ ap (take n) (sym (front-take 15 l) ∙ g .lines-are)
+    ∙ take-take n 15 pad h
+    ∙ take-append-seam ls (replicate 15 noLine)
