@@ -201,9 +201,9 @@ static void story(void)
     const struct book_sizes *s = &small;
     struct book book = fresh();
     struct book_line lines[2] = {{1, 1, 10}, {4, 2, 3}};
-    struct book_order_request order = order_of(1, 2, 3, lines, 2);
+    struct book_order_request order = order_of(1, 4, 3, lines, 2);
     struct book_order_answer ordered = book_order(&book, &order);
-    size_t row = book_order_at(s, 1, 2, 1), line = row + BOOK_ORDER_LINES + BOOK_LINE_WIDTH;
+    size_t row = book_order_at(s, 1, 4, 1), line = row + BOOK_ORDER_LINES + BOOK_LINE_WIDTH;
     struct book_deliver_request deliver;
     struct book_deliver_answer delivered;
     struct book_pay_request pay;
@@ -222,46 +222,116 @@ static void story(void)
     see(at(line, BOOK_LINE_ITEM) == 4 && at(line, BOOK_LINE_SUPPLY) == 2 && at(line, BOOK_LINE_QUANTITY) == 3 && at(line, BOOK_LINE_AMOUNT) == 1200 &&
             at(line, BOOK_LINE_DELIVERY_DATE) == 0,
         "the order's second line");
-    see(at(book_district_at(s, 1, 2), BOOK_DISTRICT_NEXT_ORDER) == 2, "next order number");
+    see(at(book_district_at(s, 1, 4), BOOK_DISTRICT_NEXT_ORDER) == 2, "next order number");
+    order = order_of(2, 4, 3, lines + 1, 1);
+    see(book_order(&book, &order).refusal == BOOK_COMMITTED, "an order of the supplying warehouse");
     row = book_stock_at(s, 2, 4);
-    see(at(row, BOOK_STOCK_ON_HAND) == 47 && at(row, BOOK_STOCK_LOTS) == 3 && at(row, BOOK_STOCK_ORDER_COUNT) == 1 &&
+    see(at(row, BOOK_STOCK_ON_HAND) == 44 && at(row, BOOK_STOCK_LOTS) == 6 && at(row, BOOK_STOCK_ORDER_COUNT) == 2 &&
             at(row, BOOK_STOCK_REMOTE_COUNT) == 1,
         "stock");
 
     deliver.warehouse = 1, deliver.carrier = 7, deliver.date = 200;
     delivered = book_deliver(&book, &deliver);
-    see(delivered.refusal == BOOK_COMMITTED && delivered.skipped == 9 && delivered.mark == 0x3fd && delivered.orders[1] == 1 && delivered.orders[0] == 0,
+    see(delivered.refusal == BOOK_COMMITTED && delivered.skipped == 9 && delivered.mark == 0x3f7 && delivered.orders[3] == 1 && delivered.orders[0] == 0,
         "a delivery");
 
-    pay.warehouse = 2, pay.district = 5, pay.custwarehouse = 1, pay.custdistrict = 2, pay.who = book_by_name("BERG"), pay.date = 300, pay.amount = 700;
+    pay.warehouse = 2, pay.district = 5, pay.custwarehouse = 1, pay.custdistrict = 4, pay.who = book_by_name("BERG"), pay.date = 300, pay.amount = 700;
     paid = book_pay(&book, &pay);
     see(paid.refusal == BOOK_COMMITTED && paid.customer == 3 && paid.balance == 1500, "a payment");
     row = book_history_at(s, 1);
-    see(at(row, BOOK_HISTORY_CUSTOMER) == 3 && at(row, BOOK_HISTORY_CUSTDISTRICT) == 2 && at(row, BOOK_HISTORY_CUSTWAREHOUSE) == 1 &&
+    see(at(row, BOOK_HISTORY_CUSTOMER) == 3 && at(row, BOOK_HISTORY_CUSTDISTRICT) == 4 && at(row, BOOK_HISTORY_CUSTWAREHOUSE) == 1 &&
             at(row, BOOK_HISTORY_DISTRICT) == 5 && at(row, BOOK_HISTORY_WAREHOUSE) == 2 && at(row, BOOK_HISTORY_DATE) == 300 &&
             at(row, BOOK_HISTORY_AMOUNT) == 700 && nums[BOOK_HEAD_HISTORY_COUNT] == 1,
         "history");
-    row = book_customer_at(s, 1, 2, 3);
-    see(at(row, BOOK_CUSTOMER_BALANCE) == 1500 && at(row, BOOK_CUSTOMER_YTD_PAYMENT) == 700 && at(row, BOOK_CUSTOMER_PAYMENT_COUNT) == 1 &&
+    see(book_pay(&book, &pay).balance == 800, "a second payment");
+    row = book_customer_at(s, 1, 4, 3);
+    see(at(row, BOOK_CUSTOMER_BALANCE) == 800 && at(row, BOOK_CUSTOMER_YTD_PAYMENT) == 1400 && at(row, BOOK_CUSTOMER_PAYMENT_COUNT) == 2 &&
             at(row, BOOK_CUSTOMER_DELIVERY_COUNT) == 1,
         "customer");
-    see(at(book_warehouse_at(s, 2), BOOK_WAREHOUSE_YTD) == 700 && at(book_district_at(s, 2, 5), BOOK_DISTRICT_YTD) == 700, "money to date");
+    see(at(book_warehouse_at(s, 2), BOOK_WAREHOUSE_YTD) == 1400 && at(book_district_at(s, 2, 5), BOOK_DISTRICT_YTD) == 1400, "money to date");
 
-    ask.warehouse = 1, ask.district = 2, ask.who = book_by_number(3);
+    ask.warehouse = 1, ask.district = 4, ask.who = book_by_number(3);
     status = book_status(&book, &ask);
-    see(status.refusal == BOOK_COMMITTED && status.customer == 3 && status.balance == 1500 && status.order == 1 && status.date == 100 &&
-            status.carrier == 7 && status.lines_len == 2 && status.lines == nums + book_order_at(s, 1, 2, 1) + BOOK_ORDER_LINES,
+    see(status.refusal == BOOK_COMMITTED && status.customer == 3 && status.balance == 800 && status.order == 1 && status.date == 100 &&
+            status.carrier == 7 && status.lines_len == 2 && status.lines == nums + book_order_at(s, 1, 4, 1) + BOOK_ORDER_LINES,
         "a status");
     shown = book_status_line(&status, 1);
     see(shown.item == 4 && shown.supply == 2 && shown.quantity == 3 && shown.amount == 1200 && shown.delivery_date == 200, "a shown line");
     ask.who = book_by_number(1), status = book_status(&book, &ask);
     see(status.refusal == BOOK_COMMITTED && status.customer == 1 && status.order == 0 && status.lines == NULL && status.lines_len == 0, "no order");
 
-    low.warehouse = 1, low.district = 2, low.threshold = 20;
+    low.warehouse = 1, low.district = 4, low.threshold = 20;
     see(book_level(&book, &low).refusal == BOOK_COMMITTED && book_level(&book, &low).count == 0, "a level");
     nums[book_stock_at(s, 1, 4) + BOOK_STOCK_ON_HAND] = 19;
     see(book_level(&book, &low).count == 1, "a level of one");
-    see(book_open(&book).refusal == BOOK_NOT_NEW, "a book in use");
+    see(book_open(&book).refusal == BOOK_NOT_NEW && book_open(&book).detail == 0, "a book in use");
+}
+
+/* ---- Ranges of rows in use: a call that uses the row is refused by 9 just outside ---- */
+
+static uint64_t asks_status(struct book *book)
+{
+    struct book_status_request q;
+    memset(&q, 0, sizeof q);
+    q.warehouse = 1, q.district = 4, q.who = book_by_number(3);
+    see(book_status(book, &q).detail == 0, "a status's detail");
+    return book_status(book, &q).refusal;
+}
+
+static uint64_t asks_level(struct book *book)
+{
+    struct book_level_request q;
+    memset(&q, 0, sizeof q);
+    q.warehouse = 1, q.district = 4, q.threshold = 10;
+    see(book_level(book, &q).detail == 0, "a level's detail");
+    return book_level(book, &q).refusal;
+}
+
+static uint64_t pays(struct book *book)
+{
+    struct book_pay_request q;
+    memset(&q, 0, sizeof q);
+    q.warehouse = 1, q.district = 5, q.custwarehouse = 1, q.custdistrict = 4, q.who = book_by_number(1), q.date = 1, q.amount = 100;
+    return book_pay(book, &q).refusal;
+}
+
+/* In the book that story leaves. */
+static void used(uint64_t (*call)(struct book *), size_t at, int64_t low, int64_t high, const char *what)
+{
+    int64_t tries[4] = {low, high, low - 1, high + 1};
+    struct book book = book_lent(nums, book_numbers(&small), names, book_name_bytes(&small));
+    for (int k = 0; k < 4; k++) {
+        memcpy(nums, saved, sizeof nums);
+        nums[at] = tries[k];
+        see(call(&book) == (k < 2 ? BOOK_COMMITTED : BOOK_BAD_ROW), what);
+    }
+}
+
+static void in_use(void)
+{
+    const struct book_sizes *s = &small;
+    size_t customer = book_customer_at(s, 1, 4, 3), stock = book_stock_at(s, 1, 2), order = book_order_at(s, 1, 4, 1), line = order + BOOK_ORDER_LINES;
+    memcpy(saved, nums, sizeof nums);
+    used(pays, book_warehouse_at(s, 1) + BOOK_WAREHOUSE_YTD, 0, BOOK_MAX_MONEY, "warehouse money in use");
+    used(pays, book_district_at(s, 1, 5) + BOOK_DISTRICT_YTD, 0, BOOK_MAX_MONEY, "district money in use");
+    used(asks_status, customer + BOOK_CUSTOMER_BALANCE, -BOOK_MAX_MONEY, BOOK_MAX_MONEY, "balance");
+    used(asks_status, customer + BOOK_CUSTOMER_YTD_PAYMENT, 0, BOOK_MAX_MONEY, "payments to date");
+    used(asks_status, customer + BOOK_CUSTOMER_PAYMENT_COUNT, 0, BOOK_MAX_COUNT, "payment count");
+    used(asks_status, customer + BOOK_CUSTOMER_DELIVERY_COUNT, 0, BOOK_MAX_COUNT, "delivery count");
+    used(asks_level, stock + BOOK_STOCK_LOTS, 0, BOOK_MAX_LOTS, "lots to date");
+    used(asks_level, stock + BOOK_STOCK_ORDER_COUNT, 0, BOOK_MAX_COUNT, "order count");
+    used(asks_level, stock + BOOK_STOCK_REMOTE_COUNT, 0, BOOK_MAX_COUNT, "remote count");
+    used(asks_status, order + BOOK_ORDER_CUSTOMER, 1, 3, "an order's customer");
+    used(asks_status, order + BOOK_ORDER_ENTRY_DATE, BOOK_MIN_DATE, BOOK_MAX_DATE, "entry date");
+    used(asks_status, order + BOOK_ORDER_CARRIER, 0, BOOK_MAX_CARRIER, "an order's carrier");
+    used(asks_status, order + BOOK_ORDER_LINE_COUNT, BOOK_MIN_LINES, 2, "line count"); /* the third line is no line */
+    used(asks_status, order + BOOK_ORDER_ALL_LOCAL, 0, 1, "all-local");
+    used(asks_status, order + BOOK_ORDER_WAITING, 0, 1, "waiting");
+    used(asks_status, line + BOOK_LINE_ITEM, 1, 4, "a line's item");
+    used(asks_status, line + BOOK_LINE_SUPPLY, 1, 2, "a line's supplying warehouse");
+    used(asks_status, line + BOOK_LINE_QUANTITY, BOOK_MIN_QUANTITY, BOOK_MAX_QUANTITY, "a line's quantity");
+    used(asks_status, line + BOOK_LINE_AMOUNT, BOOK_MIN_LINE_AMOUNT, BOOK_MAX_LINE_AMOUNT, "a line's amount");
+    used(asks_status, line + BOOK_LINE_DELIVERY_DATE, 0, BOOK_MAX_DATE, "delivery date");
 }
 
 /* ---- Refusals by name, and that they leave the book; NULL with length 0 ---- */
@@ -273,9 +343,11 @@ static void refused(void)
     struct book_order_request q = order_of(3, 1, 1, &one, 1), null_lines = order_of(1, 1, 1, NULL, 0), no_item = order_of(1, 1, 1, &none, 1);
     struct book_pay_request pay;
     struct book_status_request ask;
-    memset(&empty, 0, sizeof empty), memset(&pay, 0, sizeof pay), memset(&ask, 0, sizeof ask);
+    struct book_deliver_request deliver;
+    memset(&empty, 0, sizeof empty), memset(&pay, 0, sizeof pay), memset(&ask, 0, sizeof ask), memset(&deliver, 0, sizeof deliver);
+    deliver.carrier = deliver.date = 1;
     memcpy(saved, nums, sizeof nums);
-    see(book_order(&book, &q).refusal == BOOK_NO_WAREHOUSE, "no warehouse");
+    see(book_order(&book, &q).refusal == BOOK_NO_WAREHOUSE && book_order(&book, &q).detail == 0, "no warehouse");
     q = order_of(1, 11, 1, &one, 1);
     see(book_order(&book, &q).refusal == BOOK_NO_DISTRICT, "no district");
     q = order_of(1, 1, 4, &one, 1);
@@ -285,7 +357,8 @@ static void refused(void)
     ask.warehouse = ask.district = 1, ask.who.named = true;
     see(book_status(&book, &ask).refusal == BOOK_NOBODY, "NULL for an empty name");
     pay.warehouse = pay.district = pay.custwarehouse = pay.custdistrict = 1, pay.who = book_by_name("NOBODY"), pay.date = 1, pay.amount = 100;
-    see(book_pay(&book, &pay).refusal == BOOK_NOBODY, "nobody");
+    see(book_pay(&book, &pay).refusal == BOOK_NOBODY && book_pay(&book, &pay).detail == 0, "nobody");
+    see(book_deliver(&book, &deliver).refusal == BOOK_NO_WAREHOUSE && book_deliver(&book, &deliver).detail == 0, "no warehouse to deliver");
     see(book_open(&empty).refusal == BOOK_BAD_HEAD && book_order(&empty, &q).refusal == BOOK_BAD_HEAD && book_pay(&empty, &pay).refusal == BOOK_BAD_HEAD &&
             book_status(&empty, &ask).refusal == BOOK_BAD_HEAD,
         "NULL for a book");
@@ -313,15 +386,16 @@ static void lines(void)
     struct book_line many[16];
     struct book_order_request q;
     uint8_t buffer[600];
-    const char *n = "N\t1\t2\t3\t100\t1\t1\t10\t4\t2\t3\n", *p = "P\t2\t5\t1\t2\t=BERG\t300\t700\n", *d = "D\t1\t7\t200\n", *st = "S\t1\t2\t#3\n", *l = "L\t1\t2\t20\n";
+    const char *n = "N\t1\t2\t3\t100\t1\t1\t10\t4\t2\t3\n", *p = "P\t2\t5\t1\t4\t=BERG\t300\t700\n", *d = "D\t1\t7\t200\n", *st = "S\t1\t2\t#3\n", *l = "L\t1\t2\t20\n";
     memset(buffer, 0xee, sizeof buffer);
     see(reads(n, &r) && r.letter == 'N' && r.order.customer == 3 && r.order.lines_len == 2 && r.order.lines[1].item == 4 && r.order.lines[1].supply == 2 &&
             r.order.lines[1].quantity == 3 && r.lines[2].item == 0 && wrote(buffer, book_write_order(buffer, sizeof buffer, &r.order), n),
         "an order's line");
     memset(buffer, 0xee, sizeof buffer);
-    see(reads(p, &r) && r.letter == 'P' && r.pay.custdistrict == 2 && r.pay.who.named && r.pay.who.name_len == 4 && memcmp(r.pay.who.name, "BERG", 4) == 0 &&
+    see(reads(p, &r) && r.letter == 'P' && r.pay.custdistrict == 4 && r.pay.who.named && r.pay.who.name_len == 4 && memcmp(r.pay.who.name, "BERG", 4) == 0 &&
             r.pay.date == 300 && r.pay.amount == 700 && wrote(buffer, book_write_pay(buffer, sizeof buffer, &r.pay), p),
         "a payment's line");
+    see(reads("P\t2\t5\t1\t4\t#3\t300\t700\n", &r) && !r.pay.who.named && r.pay.who.number == 3 && r.pay.amount == 700, "a payment by number");
     memset(buffer, 0xee, sizeof buffer);
     see(reads(d, &r) && r.letter == 'D' && r.deliver.carrier == 7 && r.deliver.date == 200 && wrote(buffer, book_write_deliver(buffer, sizeof buffer, &r.deliver), d),
         "a delivery's line");
@@ -331,13 +405,15 @@ static void lines(void)
         "a status's line");
     memset(buffer, 0xee, sizeof buffer);
     see(reads(l, &r) && r.letter == 'L' && r.level.threshold == 20 && wrote(buffer, book_write_level(buffer, sizeof buffer, &r.level), l), "a level's line");
-    see(!reads("D\t1\t7\t200", &r) && r.letter == 0 && !reads("", &r) && book_read(NULL, 0, &r).refusal == BOOK_NO_FORM, "lines without a form");
+    see(!reads("D\t1\t7\t200", &r) && r.letter == 0 && !reads("", &r) && book_read(NULL, 0, &r).refusal == BOOK_NO_FORM &&
+            book_read(NULL, 0, &r).detail == 0,
+        "lines without a form");
     for (int k = 0; k < 16; k++) many[k].item = many[k].supply = many[k].quantity = UINT64_C(9999999999);
     memset(buffer, 0xee, sizeof buffer);
     q = order_of(UINT64_C(9999999999), UINT64_C(9999999999), UINT64_C(9999999999), many, 15), q.date = UINT64_C(9999999999);
     see(book_write_order(buffer, 541, &q).length == 541, "the longest line");
     memset(buffer, 0xee, sizeof buffer);
-    see(book_write_order(buffer, 540, &q).refusal == BOOK_NO_FORM && buffer[0] == 0xee, "a buffer one short");
+    see(book_write_order(buffer, 540, &q).refusal == BOOK_NO_FORM && book_write_order(buffer, 540, &q).detail == 0 && buffer[0] == 0xee, "a buffer one short");
     q.lines_len = 16;
     see(book_write_order(buffer, sizeof buffer, &q).refusal == BOOK_NO_FORM && buffer[0] == 0xee, "an order of 16 lines");
     q.lines = NULL, q.lines_len = 0;
@@ -349,7 +425,7 @@ int main(void)
     see(book_version() == BOOK_VERSION, "version");
     see(book_numbers(&small) == sizeof nums / sizeof *nums && book_name_bytes(&small) == sizeof names, "the small book's room");
     for (int k = 0; k < 200000; k++) layout();
-    masters(), ranges(), story(), refused(), lines();
+    masters(), ranges(), story(), in_use(), refused(), lines();
     printf("header: %lu facts, %lu wrong\n", tried, wrong);
     return wrong != 0;
 }
