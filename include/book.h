@@ -1,4 +1,4 @@
-/* The order book for feed cooperatives: the proved library's calls, from C and C++.
+/* The order book for feed cooperatives: the proved library's calls, from C (C99 or newer) and C++ (C++11 or newer).
 
    A book is two slices that the caller owns and lends to each call: numbers (int64_t) and name bytes. include/book_layout.h says how long
    they are for given sizes, where each row starts, and what every number may hold. A call judges both slices, whatever they hold. It is
@@ -9,12 +9,12 @@
        struct book_pay_answer paid = book_pay(&book, &request);
        if (paid.refusal != BOOK_COMMITTED) ...
 
-   Make the book by book_lent, and name the fields of a request that you set, all others 0: a later version may add fields, and a caller written
-   so still compiles. Beneath are the flat functions that the library exports; their parameters may change with BOOK_VERSION.
+   Make the book by book_lent; set a request to 0 by memset, then its fields by name: a later version may add fields, and a caller written so
+   still compiles. Beneath are the flat functions that the library exports; their parameters may change with BOOK_VERSION.
 
    Memory.
-   - NULL goes with length 0, for every slice: an empty book is refused by 2, an order without lines by 8, an empty last name by 10. An `out`,
-     `balance`, `orders`, `lines` or `name` array that a flat function fills is never NULL and has the length that its type says.
+   - NULL goes with length 0, for every slice: an empty book is refused by 2, an order without lines by 8, an empty last name by 10. Everything
+     else that is handed over by a pointer is not NULL; an array that a flat function fills has the length that its type says.
    - Slices that are only read may overlap. A slice or array that a call writes (numbers, a buffer, what comes out) must not overlap with
      anything else lent to that call.
    - The library keeps nothing between calls, has no global state, allocates nothing and writes no file.
@@ -30,7 +30,8 @@
 #include <stdint.h>
 #include <string.h>
 
-/* The version of this header, and what book_version() of the library answers: it rises whenever a function, a struct or a refusal here changes. */
+/* The version of this header, and what book_version() of the library answers: it rises whenever a function, a struct or a refusal here changes.
+   Where the shared library is loaded, refuse to start unless book_version() == BOOK_VERSION; its soname has the number as well. */
 #define BOOK_VERSION 1
 
 /* What a call answers first: 0, or the first number of this list that fits, in the list's order. The detail is the place (from 1) of the first
@@ -59,8 +60,9 @@ struct book {
     size_t names_len;
 };
 
-/* Who: a customer number, or a last name of 1 to 16 bytes. Among namesakes of a district, sorted by first name and then number, the middle one
-   is meant (place n/2 rounded up), silently: a number is safer. book_by_number and book_by_name make one. */
+/* Who: a customer number, or a last name of 1 to 16 bytes, which is compared after filling it up with spaces. Among namesakes of a district,
+   sorted by first name and then number, the middle one is meant (place n/2 rounded up), silently: a number is safer. book_by_number and
+   book_by_name make one. */
 struct book_who {
     bool named;
     uint64_t number;
@@ -75,16 +77,12 @@ struct book_line {
     uint64_t quantity;
 };
 
-/* The most lines that an order has, and the most bytes of a last name. */
-#define BOOK_LINES 15
-#define BOOK_NAME 16
-
 struct book_order_request {
     uint64_t warehouse;
     uint64_t district;
     uint64_t customer;
     uint64_t date;
-    const struct book_line *lines; /* 1 to 15 */
+    const struct book_line *lines; /* 1 to 15 of them */
     size_t lines_len;
 };
 
@@ -197,8 +195,8 @@ struct book_request {
     struct book_deliver_request deliver;
     struct book_status_request status;
     struct book_level_request level;
-    struct book_line lines[BOOK_LINES];
-    uint8_t name[BOOK_NAME];
+    struct book_line lines[15];
+    uint8_t name[16];
 };
 
 #ifdef __cplusplus
@@ -241,8 +239,8 @@ void book_stock_level(const int64_t *nums, size_t nums_len, const uint8_t *names
    of the request is 0, in lines and name as well. */
 void book_read_line(const uint8_t *line, size_t line_len, uint64_t out[13], struct book_line lines[15], uint8_t name[16]);
 
-/* A request's line written to the front of a buffer, with its byte 10; the bytes behind it are left. The longest line has 541 bytes.
-   out: refusal, detail, length. */
+/* A request's line written to the front of a buffer, with its byte 10; the bytes behind it are left, and where it is refused all are. The longest
+   line has 541 bytes. out: refusal, detail, length. */
 void book_write_new_order(uint8_t *buffer, size_t buffer_len, uint64_t warehouse, uint64_t district, uint64_t customer, uint64_t date,
                           const struct book_line *lines, size_t lines_len, uint64_t out[3]);
 void book_write_payment(uint8_t *buffer, size_t buffer_len, uint64_t warehouse, uint64_t district, uint64_t custwarehouse,
@@ -274,7 +272,7 @@ static inline struct book_who book_by_number(uint64_t customer)
     return who;
 }
 
-/* The name has to stay where it is until the call. */
+/* The name is not NULL and has to stay where it is until the call. */
 static inline struct book_who book_by_name(const char *last_name)
 {
     struct book_who who;

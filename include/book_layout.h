@@ -5,8 +5,9 @@
    customers, C a district; the items; the stocks, I a warehouse; the order slots, O a district; the history slots. Rows lie by warehouse, then
    district, then number, and everything is counted from 1: warehouse 1, district 1, customer 1, order 1.
 
-   To make a book: choose the sizes, allocate book_numbers and book_name_bytes, call book_blank, then set what the depots know: taxes, discounts,
-   credit, prices, stock on hand (each at its row and column) and the names (book_set_name). book_open of book.h then accepts it. */
+   To make a book: choose sizes that book_sizes_ok accepts, allocate book_numbers and book_name_bytes, call book_blank, then set what the depots
+   know: taxes, discounts, credit, prices, stock on hand (each at its row and column) and the names (book_set_name). book_open of book.h then
+   accepts it. C99 or newer, C++11 or newer. */
 #ifndef BOOK_LAYOUT_H
 #define BOOK_LAYOUT_H
 
@@ -58,53 +59,59 @@ struct book_sizes {
 #define BOOK_MAX_NAME_BYTE 126
 
 /* Columns: what the numbers of a row are, from 0, and how many they are. */
-enum book_head {
-    BOOK_HEAD_W,
+enum book_column {
+    /* the head */
+    BOOK_HEAD_W = 0,
     BOOK_HEAD_C,
     BOOK_HEAD_I,
     BOOK_HEAD_O,
     BOOK_HEAD_H,
     BOOK_HEAD_HISTORY_COUNT, /* 0 to H */
-    BOOK_HEAD_WIDTH
-};
-enum book_warehouse { BOOK_WAREHOUSE_TAX, BOOK_WAREHOUSE_YTD, BOOK_WAREHOUSE_WIDTH };
-enum book_district {
-    BOOK_DISTRICT_TAX,
+    BOOK_HEAD_WIDTH,
+    /* a warehouse */
+    BOOK_WAREHOUSE_TAX = 0,
+    BOOK_WAREHOUSE_YTD,
+    BOOK_WAREHOUSE_WIDTH,
+    /* a district */
+    BOOK_DISTRICT_TAX = 0,
     BOOK_DISTRICT_YTD,
     BOOK_DISTRICT_NEXT_ORDER, /* 1 to O + 1 */
-    BOOK_DISTRICT_WIDTH
-};
-enum book_customer {
-    BOOK_CUSTOMER_CREDIT,
+    BOOK_DISTRICT_WIDTH,
+    /* a customer */
+    BOOK_CUSTOMER_CREDIT = 0,
     BOOK_CUSTOMER_DISCOUNT,
     BOOK_CUSTOMER_BALANCE,
     BOOK_CUSTOMER_YTD_PAYMENT,
     BOOK_CUSTOMER_PAYMENT_COUNT,
     BOOK_CUSTOMER_DELIVERY_COUNT,
-    BOOK_CUSTOMER_WIDTH
-};
-enum book_item { BOOK_ITEM_PRICE, BOOK_ITEM_WIDTH };
-enum book_stock { BOOK_STOCK_ON_HAND, BOOK_STOCK_LOTS, BOOK_STOCK_ORDER_COUNT, BOOK_STOCK_REMOTE_COUNT, BOOK_STOCK_WIDTH };
-enum book_order_column {
-    BOOK_ORDER_CUSTOMER,
+    BOOK_CUSTOMER_WIDTH,
+    /* an item */
+    BOOK_ITEM_PRICE = 0,
+    BOOK_ITEM_WIDTH,
+    /* an item's stock at a warehouse */
+    BOOK_STOCK_ON_HAND = 0,
+    BOOK_STOCK_LOTS,
+    BOOK_STOCK_ORDER_COUNT,
+    BOOK_STOCK_REMOTE_COUNT,
+    BOOK_STOCK_WIDTH,
+    /* an order */
+    BOOK_ORDER_CUSTOMER = 0,
     BOOK_ORDER_ENTRY_DATE,
     BOOK_ORDER_CARRIER, /* 0 until delivered */
     BOOK_ORDER_LINE_COUNT,
     BOOK_ORDER_ALL_LOCAL, /* 1 where every line is supplied by the order's own warehouse */
     BOOK_ORDER_WAITING,   /* 1 until delivered */
     BOOK_ORDER_LINES,     /* the first of 15 lines */
-    BOOK_ORDER_WIDTH = 81
-};
-enum book_order_line {
-    BOOK_LINE_ITEM,
+    BOOK_ORDER_WIDTH = 81,
+    /* a line of an order: its numbers from BOOK_ORDER_LINES + BOOK_LINE_WIDTH * i on, i from 0 */
+    BOOK_LINE_ITEM = 0,
     BOOK_LINE_SUPPLY,
     BOOK_LINE_QUANTITY,
     BOOK_LINE_AMOUNT,
     BOOK_LINE_DELIVERY_DATE, /* 0 until delivered */
-    BOOK_LINE_WIDTH
-};
-enum book_history {
-    BOOK_HISTORY_CUSTOMER,
+    BOOK_LINE_WIDTH,
+    /* a history slot */
+    BOOK_HISTORY_CUSTOMER = 0,
     BOOK_HISTORY_CUSTDISTRICT,
     BOOK_HISTORY_CUSTWAREHOUSE,
     BOOK_HISTORY_DISTRICT, /* where it was paid */
@@ -115,7 +122,8 @@ enum book_history {
 };
 #define BOOK_NAME_WIDTH (2 * BOOK_NAME_BYTES) /* a customer's name bytes: last name, then first name, each filled up with spaces */
 
-/* Whether the sizes are in their ranges. The functions below are for sizes that are. */
+/* Whether the sizes are in their ranges. The functions below are for sizes that are, and for places from 1 to their size: but for book_set_name they
+   check nothing (book_places of the library does). */
 static inline bool book_sizes_ok(const struct book_sizes *s)
 {
     return 1 <= s->warehouses && s->warehouses <= BOOK_MAX_WAREHOUSES && 1 <= s->customers && s->customers <= BOOK_MAX_CUSTOMERS &&
@@ -202,18 +210,20 @@ static inline void book_blank(const struct book_sizes *s, int64_t *nums, uint8_t
         for (d = 1; d <= BOOK_DISTRICTS; d++) nums[book_district_at(s, w, d) + BOOK_DISTRICT_NEXT_ORDER] = 1;
 }
 
-/* Sets a customer's last and first name, filled up with spaces, and answers true; false, with nothing set, where one has over 16 bytes or a byte
-   that is not 32 to 126, or the last name is empty or starts with a space. */
+/* Sets a customer's last and first name, filled up with spaces, and answers true; false, with nothing set, where the book has no such customer, a
+   name has over 16 bytes or a byte that is not 32 to 126, or the last name is empty or starts with a space. */
 static inline bool book_set_name(const struct book_sizes *s, uint8_t *names, uint64_t warehouse, uint64_t district, uint64_t customer,
                                  const char *last, const char *first)
 {
-    uint8_t *name = names + book_name_at(s, warehouse, district, customer);
     size_t last_len = strlen(last), first_len = strlen(first), i;
+    uint8_t *name;
+    if (warehouse - 1 >= s->warehouses || district - 1 >= BOOK_DISTRICTS || customer - 1 >= s->customers) return false;
     if (last_len == 0 || last_len > BOOK_NAME_BYTES || first_len > BOOK_NAME_BYTES || last[0] == ' ') return false;
     for (i = 0; i < last_len; i++)
         if (last[i] < BOOK_MIN_NAME_BYTE || last[i] > BOOK_MAX_NAME_BYTE) return false;
     for (i = 0; i < first_len; i++)
         if (first[i] < BOOK_MIN_NAME_BYTE || first[i] > BOOK_MAX_NAME_BYTE) return false;
+    name = names + book_name_at(s, warehouse, district, customer);
     memset(name, ' ', BOOK_NAME_WIDTH);
     memcpy(name, last, last_len);
     memcpy(name + BOOK_NAME_BYTES, first, first_len);

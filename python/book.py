@@ -1,23 +1,27 @@
 """The order book for feed cooperatives, from Python: the proved library over ctypes, nothing else.
 
 `bin/build library` of the repository makes the shared library that this module loads (or name one in BOOK_LIBRARY). x86-64 Linux only.
-A Book owns its numbers and names. Every call is committed and answers its figures, or raises Refused and has changed nothing.
+A Book owns its numbers and names. Every call is committed and answers its figures, or raises Refused and has changed nothing. One call at a time
+runs on a Book, also from threads: it has a lock. To keep a book, write b.nums and b.names to a file; to have it back, make a Book of the same
+sizes and read them into it (file.readinto); it is not opened again, since opening is for a new book.
 """
 
 import ctypes
+import operator
 import os
+import threading
 from typing import List, NamedTuple, Union
 
 VERSION = 1  # BOOK_VERSION of include/book.h
 
 _path = os.environ.get("BOOK_LIBRARY") or os.path.join(
-    os.path.dirname(os.path.dirname(os.path.abspath(__file__))), "target", "shared", "libbook.so"
+    os.path.dirname(os.path.dirname(os.path.realpath(__file__))), "target", "shared", "libbook.so"
 )
 try:
     _lib = ctypes.CDLL(_path)
-except OSError as error:
-    raise ImportError(f"{error}; 'bin/build library' makes it") from None
-_lib.book_version.restype = ctypes.c_uint64
+    _lib.book_version.restype = ctypes.c_uint64
+except (OSError, AttributeError) as error:
+    raise ImportError(f"{error}; 'bin/build library' makes target/shared/libbook.so, BOOK_LIBRARY names another") from None
 if _lib.book_version() != VERSION:
     raise ImportError(f"{_path} is version {_lib.book_version()} of the library, this module is for version {VERSION}")
 
@@ -41,9 +45,12 @@ class Refused(Exception):
     """The refusal's number, and its detail: the first offending line of an order at 8 and 12, else 0."""
 
     def __init__(self, number, detail):
-        super().__init__(f"{number}: {REFUSALS.get(number, '?')}" + (f" (line {detail})" if detail else ""))
+        super().__init__(number, detail)
         self.number = number
         self.detail = detail
+
+    def __str__(self):
+        return f"{self.number}: {REFUSALS.get(self.number, '?')}" + (f" (line {self.detail})" if self.detail else "")
 
 
 # ---- Requests and answers. Who is a customer number (int) or a last name (str or bytes). Money is cents.
@@ -151,18 +158,24 @@ class Row:
         object.__setattr__(self, "_fields", fields)
 
     def _place(self, field):
-        try:
-            return self._at + self._fields.index(field)
-        except ValueError:
-            raise AttributeError(f"the row has {', '.join(self._fields)}, not {field}") from None
+        if field.startswith("_") or field not in self._fields:
+            raise AttributeError(f"a row has no {field}")
+        return self._at + self._fields.index(field)
 
     def __getattr__(self, field):
         return self._nums[self._place(field)]
 
     def __setattr__(self, field, value):
+        value = operator.index(value)
         if not -(2**63) <= value < 2**63:
-            raise ValueError(f"{value} has no room in 64 bits")
+            raise ValueError(f"{field} {value} has no room in 64 bits")
         self._nums[self._place(field)] = value
+
+    def __reduce__(self):
+        return Row, (self._nums, self._at, self._fields)
+
+    def __repr__(self):
+        return "Row(" + ", ".join(f"{field}={getattr(self, field)}" for field in self._fields) + ")"
 
 
 _WAREHOUSE = ("tax", "ytd")
@@ -170,33 +183,39 @@ _DISTRICT = ("tax", "ytd", "next_order")
 _CUSTOMER = ("credit", "discount", "balance", "ytd_payment", "payment_count", "delivery_count")
 _ITEM = ("price",)
 _STOCK = ("on_hand", "lots", "order_count", "remote_count")
+_ORDER = ("customer", "entry_date", "carrier", "line_count", "all_local", "waiting")
+_HISTORY = ("customer", "custdistrict", "custwarehouse", "district", "warehouse", "date", "amount")
 
 
 class _CLine(ctypes.Structure):
     _fields_ = [("item", ctypes.c_uint64), ("supply", ctypes.c_uint64), ("quantity", ctypes.c_uint64)]
 
 
-def _u64(value):
+def _u64(name, value):
+    try:
+        value = operator.index(value)
+    except TypeError:
+        raise TypeError(f"{name} is a number, not {value!r}") from None
     if not 0 <= value < 2**64:
-        raise ValueError(f"{value} is not a number of a request: 0 to 2^64 - 1")
+        raise ValueError(f"{name} {value} is out of range: 0 to 2^64 - 1")
     return ctypes.c_uint64(value)
 
 
-def _numbers(values):
-    return [_u64(value) for value in values]
+def _numbers(**named):
+    return [_u64(name, value) for name, value in named.items()]
 
 
 def _lines(lines):
-    array = (_CLine * len(lines))(*[_CLine(*_numbers(line)) for line in lines])
+    array = (_CLine * len(lines))(*[_CLine(*_numbers(**Line(*line)._asdict())) for line in lines])
     return [array, ctypes.c_size_t(len(lines))]
 
 
 def _who(who):
     """Whether by name, the number, the name and its length."""
-    if isinstance(who, int):
-        return [ctypes.c_bool(False), _u64(who), None, ctypes.c_size_t(0)]
-    name = who.encode() if isinstance(who, str) else bytes(who)
-    return [ctypes.c_bool(True), ctypes.c_uint64(0), ctypes.c_char_p(name), ctypes.c_size_t(len(name))]
+    if isinstance(who, (str, bytes, bytearray)):
+        name = who.encode() if isinstance(who, str) else bytes(who)
+        return [ctypes.c_bool(True), ctypes.c_uint64(0), ctypes.c_char_p(name), ctypes.c_size_t(len(name))]
+    return [ctypes.c_bool(False), _u64("who", who), None, ctypes.c_size_t(0)]
 
 
 def _answer(call, parameters, figures, *others):
@@ -211,7 +230,15 @@ def _answer(call, parameters, figures, *others):
 
 def _places(sizes, warehouse=1, district=1, customer=1, item=1, order=1, history=1):
     """How many numbers and name bytes a book of these sizes has, and where the rows of one place start: proved, as the calls are."""
-    return _answer(_lib.book_places, _numbers([*sizes, warehouse, district, customer, item, order, history]), 10)
+    places = dict(warehouse=warehouse, district=district, customer=customer, item=item, order=order, history=history)
+    try:
+        return _answer(_lib.book_places, _numbers(**sizes._asdict(), **places), 10)
+    except Refused:
+        raise ValueError(f"{places} is no place of a book of {sizes}, or these are no sizes of a book") from None
+
+
+def _padded(part):
+    return (part.encode() if isinstance(part, str) else bytes(part)).ljust(16)
 
 
 class Book:
@@ -222,12 +249,13 @@ class Book:
         numbers, name_bytes = _places(self.sizes)[:2]
         self.nums = (ctypes.c_int64 * numbers)(*self.sizes)
         self.names = (ctypes.c_uint8 * name_bytes)()
+        self._lock = threading.Lock()
         ctypes.memset(self.names, ord(" "), name_bytes)
         for warehouse in range(1, self.sizes.warehouses + 1):
             for district in range(1, 11):
                 self.district(warehouse, district).next_order = 1
 
-    # The rows, counted from 1; a place that the book lacks raises Refused(2).
+    # The rows, counted from 1. An order's slot is its number.
 
     def warehouse(self, warehouse):
         return Row(self.nums, _places(self.sizes, warehouse)[2], _WAREHOUSE)
@@ -244,63 +272,82 @@ class Book:
     def stock(self, warehouse, item):
         return Row(self.nums, _places(self.sizes, warehouse, item=item)[6], _STOCK)
 
+    def order(self, warehouse, district, order):
+        return Row(self.nums, _places(self.sizes, warehouse, district, order=order)[7], _ORDER)
+
+    def history(self, history):
+        return Row(self.nums, _places(self.sizes, history=history)[8], _HISTORY)
+
     def set_name(self, warehouse, district, customer, last, first):
         """Last and first name, each of at most 16 bytes 32 to 126; the last name is not empty and starts with no space."""
         at = _places(self.sizes, warehouse, district, customer)[9]
-        parts = [part.encode("ascii") for part in (last, first)]
-        if any(len(part) > 16 or not all(32 <= byte <= 126 for byte in part) for part in parts) or parts[0][:1] in (b"", b" "):
+        name = _padded(last) + _padded(first)
+        if len(_padded(last)) != 16 or len(name) != 32 or name[0] == 32 or not all(32 <= byte <= 126 for byte in name):
             raise ValueError(f"{last!r}, {first!r} is no name of a book")
-        self.names[at : at + 32] = list(parts[0].ljust(16) + parts[1].ljust(16))
+        self.names[at : at + 32] = list(name)
 
     # The calls
 
-    def _lent(self):
-        return [self.nums, ctypes.c_size_t(len(self.nums)), self.names, ctypes.c_size_t(len(self.names))]
+    def _call(self, call, parameters, figures, *others):
+        lent = [self.nums, ctypes.c_size_t(len(self.nums)), self.names, ctypes.c_size_t(len(self.names))]
+        with self._lock:
+            return _answer(call, lent + parameters, figures, *others)
 
     def open(self):
         """Refused by 3 unless the book is new and in range. It writes nothing."""
-        _answer(_lib.book_opening, self._lent(), 0)
+        self._call(_lib.book_opening, [], 0)
 
     def new_order(self, warehouse, district, customer, date, lines):
-        order = _numbers([warehouse, district, customer, date])
-        return Ordered(*_answer(_lib.book_new_order, self._lent() + order + _lines(lines), 2))
+        order = _numbers(warehouse=warehouse, district=district, customer=customer, date=date)
+        return Ordered(*self._call(_lib.book_new_order, order + _lines(lines), 2))
 
     def payment(self, warehouse, district, custwarehouse, custdistrict, who, date, amount):
-        places = _numbers([warehouse, district, custwarehouse, custdistrict])
+        places = _numbers(warehouse=warehouse, district=district, custwarehouse=custwarehouse, custdistrict=custdistrict)
         balance = (ctypes.c_int64 * 1)()
-        (customer,) = _answer(_lib.book_payment, self._lent() + places + _who(who) + _numbers([date, amount]), 1, balance)
+        (customer,) = self._call(_lib.book_payment, places + _who(who) + _numbers(date=date, amount=amount), 1, balance)
         return Paid(customer, balance[0])
 
     def delivery(self, warehouse, carrier, date):
         orders = (ctypes.c_uint64 * 10)()
-        skipped, _ = _answer(_lib.book_delivery, self._lent() + _numbers([warehouse, carrier, date]), 2, orders)
+        skipped, _ = self._call(_lib.book_delivery, _numbers(warehouse=warehouse, carrier=carrier, date=date), 2, orders)
         return Delivered(skipped, list(orders))
 
     def order_status(self, warehouse, district, who):
         balance = (ctypes.c_int64 * 1)()
-        parameters = self._lent() + _numbers([warehouse, district]) + _who(who)
-        customer, order, date, carrier, start, count = _answer(_lib.book_order_status, parameters, 6, balance)
+        asked = _numbers(warehouse=warehouse, district=district) + _who(who)
+        customer, order, date, carrier, start, count = self._call(_lib.book_order_status, asked, 6, balance)
         lines = [ShownLine(*self.nums[at : at + 5]) for at in range(start, start + count, 5)]
         return Status(customer, balance[0], order, date, carrier, lines)
 
     def stock_level(self, warehouse, district, threshold):
         """How many items of the last 20 orders have less on hand than the threshold."""
-        return _answer(_lib.book_stock_level, self._lent() + _numbers([warehouse, district, threshold]), 1)[0]
+        return self._call(_lib.book_stock_level, _numbers(warehouse=warehouse, district=district, threshold=threshold), 1)[0]
 
     def carry_out(self, request):
         """A request of any kind, as read_line gives it."""
-        return getattr(self, _KINDS[type(request)])(*request)
+        return getattr(self, _kind(request))(*request)
 
 
 _KINDS = {NewOrder: "new_order", Payment: "payment", Delivery: "delivery", OrderStatus: "order_status", StockLevel: "stock_level"}
 
 
+def _kind(request):
+    for kind, name in _KINDS.items():
+        if isinstance(request, kind):
+            return name
+    raise TypeError(f"a request is one of {', '.join(kind.__name__ for kind in _KINDS)}, not {request!r}")
+
+
 # ---- Request lines
+
 
 def read_line(line):
     """The request that a line of bytes holds, its byte 10 included; Refused(1) where it has no form."""
+    if not isinstance(line, (bytes, bytearray)):
+        raise TypeError(f"a line is bytes, not {line!r}")
     lines, name = (_CLine * 15)(), (ctypes.c_uint8 * 16)()
-    letter, *six, named, number, count, length = _answer(_lib.book_read_line, [ctypes.c_char_p(line), ctypes.c_size_t(len(line))], 11, lines, name)
+    text = [ctypes.c_char_p(bytes(line)), ctypes.c_size_t(len(line))]
+    letter, *six, named, number, count, length = _answer(_lib.book_read_line, text, 11, lines, name)
     who = bytes(name[:length]).decode("ascii") if named else number
     if letter == ord("N"):
         return NewOrder(*six[:4], [Line(l.item, l.supply, l.quantity) for l in lines[:count]])
@@ -313,10 +360,10 @@ def read_line(line):
 
 def write_line(request):
     """The line of a request, its byte 10 included; Refused(1) where it has no form."""
-    kind = _KINDS[type(request)]
+    write = getattr(_lib, "book_write_" + _kind(request))
     parameters = []
     for field, value in request._asdict().items():
-        parameters += _lines(value) if field == "lines" else _who(value) if field == "who" else [_u64(value)]
+        parameters += _lines(value) if field == "lines" else _who(value) if field == "who" else [_u64(field, value)]
     buffer = (ctypes.c_uint8 * 541)()
-    (length,) = _answer(getattr(_lib, "book_write_" + kind), [buffer, ctypes.c_size_t(541)] + parameters, 1)
+    (length,) = _answer(write, [buffer, ctypes.c_size_t(541)] + parameters, 1)
     return bytes(buffer[:length])

@@ -135,7 +135,9 @@ static void masters(void)
         memcpy(keep, names, sizeof names);
         see(!book_set_name(s, names, 1, 1, 1, "", "EVA") && !book_set_name(s, names, 1, 1, 1, " ALM", "EVA") &&
                 !book_set_name(s, names, 1, 1, 1, "SEVENTEEN LETTERS", "EVA") && !book_set_name(s, names, 1, 1, 1, "ALM", "EV\x7f") &&
-                !book_set_name(s, names, 1, 1, 1, "\xc3\x84LM", "EVA") && memcmp(keep, names, sizeof names) == 0,
+                !book_set_name(s, names, 1, 1, 1, "\xc3\x84LM", "EVA") && !book_set_name(s, names, 0, 1, 1, "ALM", "BO") &&
+                !book_set_name(s, names, 3, 1, 1, "ALM", "BO") && !book_set_name(s, names, 1, 11, 1, "ALM", "BO") &&
+                !book_set_name(s, names, 1, 1, 4, "ALM", "BO") && memcmp(keep, names, sizeof names) == 0,
             "names that are none");
     }
 }

@@ -42,7 +42,7 @@ fn parse_tokens(tokens: &[&str]) -> Option<Command> {
         ("BYTES", ["names", token]) => hex::read(token).map(Command::Names),
         ("BYTES", ["names", ..]) => None,
         ("SLICE" | "BYTES", [_, ..]) | ("LEVEL" | "QUEUE", _) => Some(Command::Nothing),
-        ("HELP", _) => Some(Command::Help),
+        ("HELP", []) => Some(Command::Help),
         ("OPEN", []) => Some(Command::Open),
         ("READ", [token]) => hex::read(token).map(Command::Read),
         ("WRITE", [cap, request @ ..]) => {
