@@ -4,6 +4,7 @@ ghost use mathlib.Core.Path.{_≡_};
 ghost use mathlib.Core.Bool.{true};
 ghost use lib.ListN.{length};
 ghost use Rattle.io.specs.Counts.{Counts};
+ghost use Rattle.libc.specs.Io.{Status};
 ghost use Rattle.stdio.specs.Errors.{isPassing};
 use libc::EAGAIN;
 use libc::EINTR;
@@ -134,9 +135,13 @@ pub fn get(buf: &mut [u8]) -> Got
     }
 }
 
-// Closes standard output, for some errors show only there. Where it fails says so.
-pub fn close() {
-    if libc::close(STDOUT_FILENO) < 0 {
+// Closes standard output, for some errors show only there: 0, or -1 where it fails, which it says.
+pub fn close() -> i32
+    ensures { λ r. ⌜ Status r ⌝ }
+{
+    let r = libc::close(STDOUT_FILENO);
+    if r < 0 {
         os::fail(b"book: standard output");
     }
+    r
 }
