@@ -1,27 +1,32 @@
 /* The order book for feed cooperatives: the proved library's calls, from C (C99 or newer) and C++ (C++11 or newer).
 
-   A book is two slices that the caller owns and lends to each call: numbers (int64_t) and name bytes. include/book_layout.h says how long
-   they are for given sizes, where each row starts, and what every number may hold. A call judges both slices, whatever they hold. It is
-   committed, carried out whole; or refused by a number, and then changes no number and no byte of the book.
+   A book is two slices that the caller owns and lends to each call: numbers (int64_t) and name bytes. Beside them stands a third, the last
+   order of each customer (int64_t), all 0 with a new book: New-Order writes it, Order-Status reads it, no other call takes it.
+   include/book_layout.h says how long the slices are for given sizes, where each row starts, and what every number may hold. A call judges the
+   slices that it takes, whatever they hold. It is committed, carried out whole; or refused by a number, and then changes no number and no byte
+   of them.
 
    Two layers. A `struct book` with a request struct goes to a small inline function, and a struct with named fields comes back:
 
        struct book_pay_answer paid = book_pay(&book, &request);
        if (paid.refusal != BOOK_COMMITTED) ...
 
-   Make the book by book_lent; set a request to 0 by memset, then its fields by name: a later version may add fields, and a caller written so
-   still compiles. Beneath are the flat functions that the library exports; their parameters may change with BOOK_VERSION.
+   Make the book by book_lent, then set its last orders by name; set a request to 0 by memset, then its fields by name: a later version may add
+   fields, and a caller written so still compiles. Beneath are the flat functions that the library exports; their parameters may change with
+   BOOK_VERSION.
 
    Memory.
-   - NULL goes with length 0, for every slice: an empty book is refused by 2, an order without lines by 8, an empty last name by 10. Everything
-     else that is handed over by a pointer is not NULL; an array that a flat function fills has the length that its type says.
-   - Slices that are only read may overlap. A slice or array that a call writes (numbers, a buffer, what comes out) must not overlap with
-     anything else lent to that call.
+   - NULL goes with length 0, for every slice: an empty book is refused by 2, an order without lines by 8, an empty last name by 10, New-Order
+     and Order-Status without the last orders by 13. Everything else that is handed over by a pointer is not NULL; an array that a flat function
+     fills has the length that its type says.
+   - Slices that are only read may overlap. A slice or array that a call writes (numbers, last orders in New-Order, a buffer, what comes out)
+     must not overlap with anything else lent to that call.
    - The library keeps nothing between calls, has no global state, allocates nothing and writes no file.
-   - Threads: one writer a book. While book_order, book_pay or book_deliver runs on a book, no other call may run on it; the calls that only
-     read may run side by side. Different books do not know of each other.
-   - A crash inside a call (the process killed, the power gone) can leave a half-written book where its memory outlives the process, as in a
-     mapped file: the stores of a call are not one step of the machine. Keep a copy, or the list of requests, from before the call. */
+   - Threads: one writer a book, its last orders included. While book_order, book_pay or book_deliver runs on a book, no other call may run on
+     it; the calls that only read may run side by side. Different books do not know of each other.
+   - A crash inside a call (the process killed, the power gone) can leave a half-written book, or last orders that do not go with it, where their
+     memory outlives the process, as in a mapped file: the stores of a call are not one step of the machine. Keep a copy of all three slices, or
+     the list of requests, from before the call. */
 #ifndef BOOK_H
 #define BOOK_H
 
@@ -32,14 +37,15 @@
 
 /* The version of this header, and what book_version() of the library answers: it rises whenever a function, a struct or a refusal here changes.
    Where the shared library is loaded, refuse to start unless book_version() == BOOK_VERSION; its soname has the number as well. */
-#define BOOK_VERSION 1
+#define BOOK_VERSION 2
 
-/* What a call answers first: 0, or the first number of this list that fits, in the list's order. The detail is the place (from 1) of the first
-   offending line of an order at 8 and 12, and 0 otherwise, also where the number of lines itself offends. */
+/* What a call answers first: 0, or the first number of this list that fits, in the list's order but that New-Order looks at 13 before 11 and 12.
+   The detail is the place (from 1) of the first offending line of an order at 8 and 12, and 0 otherwise, also where the number of lines itself
+   offends. */
 enum book_refusal {
     BOOK_COMMITTED = 0,
     BOOK_NO_FORM = 1,      /* a text line has no form; in writing, the request has none or the buffer is shorter than its line */
-    BOOK_BAD_HEAD = 2,     /* under 6 numbers, a head number out of range, or a length that the head does not imply */
+    BOOK_BAD_HEAD = 2,     /* under 6 numbers, a head number out of range, or a length of numbers or name bytes that the head does not imply */
     BOOK_NOT_NEW = 3,      /* opening alone: a value is out of range, or the book is in use (sound or not) */
     BOOK_NO_WAREHOUSE = 4, /* a warehouse, the terminal's or the paying customer's, is not 1 to W */
     BOOK_NO_DISTRICT = 5,  /* a district, the terminal's or the paying customer's, is not 1 to 10 */
@@ -49,15 +55,19 @@ enum book_refusal {
     BOOK_BAD_ROW = 9,      /* a row or name that the call uses holds a value out of range: the book is damaged */
     BOOK_NOBODY = 10,      /* nobody in the district has the last name */
     BOOK_NO_ROOM = 11,     /* New-Order: no order slot is left in the district; Payment: no history slot is left */
-    BOOK_NO_ITEM = 12      /* a line's item is not 1 to I, or its price is 0 */
+    BOOK_NO_ITEM = 12,     /* a line's item is not 1 to I, or its price is 0 */
+    BOOK_BAD_LAST = 13     /* New-Order, Order-Status: the last orders' length is not 10 * W * C, a number of the call's district is not 0 to next
+                              order number - 1, or (Order-Status) the order to be shown holds a value out of range */
 };
 
-/* All that is lent: the numbers and the name bytes, each with its length. */
+/* All that is lent: the numbers, the name bytes and the last orders, each with its length. */
 struct book {
     int64_t *nums;
     size_t nums_len;
     const uint8_t *names;
     size_t names_len;
+    int64_t *last; /* by customer its largest order number, 0 for none; book_lent leaves it empty */
+    size_t last_len;
 };
 
 /* Who: a customer number, or a last name of 1 to 16 bytes, which is compared after filling it up with spaces. Among namesakes of a district,
@@ -146,9 +156,10 @@ struct book_deliver_answer {
     uint64_t orders[10];
 };
 
-/* The customer, the balance, and the customer's last order: its number, entry date and carrier (0 while it waits). Its lines stand in the
-   book's own numbers: five for each line, from lines on (book_status_line reads one). Without an order, order, date and carrier are 0, lines is
-   NULL and lines_len 0. The lines are those of the book as it is: a later call may change them. */
+/* The customer, the balance, and the customer's last order, the one that the last orders name, whoever its customer is: its number, entry date
+   and carrier (0 while it waits). Its lines stand in the book's own numbers: five for each line, from lines on (book_status_line reads one).
+   Where the number is 0, there is no order: order, date and carrier are 0, lines is NULL and lines_len 0. The lines are those of the book as it
+   is: a later call may change them. */
 struct book_status_answer {
     uint64_t refusal;
     uint64_t detail;
@@ -212,9 +223,10 @@ uint64_t book_version(void);
 /* Opening: whether the book is new and in range. It writes nothing. out: refusal, detail. */
 void book_opening(const int64_t *nums, size_t nums_len, const uint8_t *names, size_t names_len, uint64_t out[2]);
 
-/* New-Order. out: refusal, detail, order, total. */
-void book_new_order(int64_t *nums, size_t nums_len, const uint8_t *names, size_t names_len, uint64_t warehouse, uint64_t district,
-                    uint64_t customer, uint64_t date, const struct book_line *lines, size_t lines_len, uint64_t out[4]);
+/* New-Order; committed, it makes the order's number the customer's in last. out: refusal, detail, order, total. */
+void book_new_order(int64_t *nums, size_t nums_len, const uint8_t *names, size_t names_len, int64_t *last, size_t last_len,
+                    uint64_t warehouse, uint64_t district, uint64_t customer, uint64_t date, const struct book_line *lines, size_t lines_len,
+                    uint64_t out[4]);
 
 /* Payment. out: refusal, detail, customer; balance[0]: the balance afterwards. */
 void book_payment(int64_t *nums, size_t nums_len, const uint8_t *names, size_t names_len, uint64_t warehouse, uint64_t district,
@@ -225,10 +237,12 @@ void book_payment(int64_t *nums, size_t nums_len, const uint8_t *names, size_t n
 void book_delivery(int64_t *nums, size_t nums_len, const uint8_t *names, size_t names_len, uint64_t warehouse, uint64_t carrier,
                    uint64_t date, uint64_t out[4], uint64_t orders[10]);
 
-/* Order-Status. out: refusal, detail, customer, order, date, carrier, then where in nums the order's lines start and how many numbers they are,
-   five a line (item, supplying warehouse, quantity, amount, delivery date); 0, 0 where there is none. balance[0]: the balance. */
-void book_order_status(const int64_t *nums, size_t nums_len, const uint8_t *names, size_t names_len, uint64_t warehouse, uint64_t district,
-                       bool named, uint64_t number, const uint8_t *name, size_t name_len, uint64_t out[8], int64_t balance[1]);
+/* Order-Status, with the order that last names. out: refusal, detail, customer, order, date, carrier, then where in nums the order's lines start
+   and how many numbers they are, five a line (item, supplying warehouse, quantity, amount, delivery date); 0, 0 where there is none. balance[0]:
+   the balance. */
+void book_order_status(const int64_t *nums, size_t nums_len, const uint8_t *names, size_t names_len, const int64_t *last, size_t last_len,
+                       uint64_t warehouse, uint64_t district, bool named, uint64_t number, const uint8_t *name, size_t name_len,
+                       uint64_t out[8], int64_t balance[1]);
 
 /* Stock-Level. out: refusal, detail, count. */
 void book_stock_level(const int64_t *nums, size_t nums_len, const uint8_t *names, size_t names_len, uint64_t warehouse, uint64_t district,
@@ -290,7 +304,7 @@ static inline uint64_t book_date(int64_t unix_time)
     return (uint64_t)unix_time + UINT64_C(2208988801);
 }
 
-/* A book of these two slices; whatever else a later version lends is empty. */
+/* A book of these two slices. The last orders, and whatever else a later version lends, are empty: set them by name. */
 static inline struct book book_lent(int64_t *nums, size_t nums_len, const uint8_t *names, size_t names_len)
 {
     struct book book;
@@ -316,8 +330,8 @@ static inline struct book_order_answer book_order(struct book *book, const struc
 {
     uint64_t out[4];
     struct book_order_answer a;
-    book_new_order(book->nums, book->nums_len, book->names, book->names_len, q->warehouse, q->district, q->customer, q->date, q->lines,
-                   q->lines_len, out);
+    book_new_order(book->nums, book->nums_len, book->names, book->names_len, book->last, book->last_len, q->warehouse, q->district,
+                   q->customer, q->date, q->lines, q->lines_len, out);
     a.refusal = out[0];
     a.detail = out[1];
     a.order = out[2];
@@ -356,8 +370,8 @@ static inline struct book_status_answer book_status(const struct book *book, con
     uint64_t out[8];
     int64_t balance[1];
     struct book_status_answer a;
-    book_order_status(book->nums, book->nums_len, book->names, book->names_len, q->warehouse, q->district, q->who.named, q->who.number,
-                      q->who.name, q->who.name_len, out, balance);
+    book_order_status(book->nums, book->nums_len, book->names, book->names_len, book->last, book->last_len, q->warehouse, q->district,
+                      q->who.named, q->who.number, q->who.name, q->who.name_len, out, balance);
     a.refusal = out[0];
     a.detail = out[1];
     a.customer = out[2];

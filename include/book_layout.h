@@ -1,13 +1,14 @@
-/* The layout of a book: how long its two slices are for given sizes, where each row starts, what each number of a row is, and the range of every
+/* The layout of a book: how long its slices are for given sizes, where each row starts, what each number of a row is, and the range of every
    value. Everything is inline; nothing has to be linked.
 
    A book is numbers (int64_t) and name bytes. The numbers are, in this order: the head; the warehouses; the districts, 10 a warehouse; the
    customers, C a district; the items; the stocks, I a warehouse; the order slots, O a district; the history slots. Rows lie by warehouse, then
-   district, then number, and everything is counted from 1: warehouse 1, district 1, customer 1, order 1.
+   district, then number, and everything is counted from 1: warehouse 1, district 1, customer 1, order 1. Beside the book lie the last orders
+   (int64_t): one number for each customer, in the order of the customer rows.
 
    To make a book: choose sizes that book_sizes_ok accepts, allocate book_numbers and book_name_bytes, call book_blank, then set what the depots
    know: taxes, discounts, credit, prices, stock on hand (each at its row and column) and the names (book_set_name). book_open of book.h then
-   accepts it. C99 or newer, C++11 or newer. */
+   accepts it. The last orders are book_last_numbers zeros, as calloc gives them. C99 or newer, C++11 or newer. */
 #ifndef BOOK_LAYOUT_H
 #define BOOK_LAYOUT_H
 
@@ -183,7 +184,14 @@ static inline size_t book_name_at(const struct book_sizes *s, uint64_t warehouse
     return (size_t)((book_districts_before(warehouse, district) * s->customers + (customer - 1)) * BOOK_NAME_WIDTH);
 }
 
-/* How many numbers, and how many name bytes, a book has. */
+/* Where a customer's number is in the last orders: the largest of its order numbers, 0 for none. It is at most the district's next order number
+   less 1; calls that take the slice are refused by 13 where any number of their district is not. */
+static inline size_t book_last_at(const struct book_sizes *s, uint64_t warehouse, uint64_t district, uint64_t customer)
+{
+    return (size_t)(book_districts_before(warehouse, district) * s->customers + (customer - 1));
+}
+
+/* How many numbers, and how many name bytes, a book has, and how many numbers its last orders are. */
 static inline size_t book_numbers(const struct book_sizes *s)
 {
     return book_history_at(s, s->histories + 1);
@@ -192,6 +200,11 @@ static inline size_t book_numbers(const struct book_sizes *s)
 static inline size_t book_name_bytes(const struct book_sizes *s)
 {
     return book_name_at(s, s->warehouses + 1, 1, 1);
+}
+
+static inline size_t book_last_numbers(const struct book_sizes *s)
+{
+    return book_last_at(s, s->warehouses + 1, 1, 1);
 }
 
 /* A new book's start: the head, every next order number 1, every other number 0, every name byte a space. nums has book_numbers, names has

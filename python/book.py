@@ -1,9 +1,9 @@
 """The order book for feed cooperatives, from Python: the proved library over ctypes, nothing else.
 
 `bin/build library` of the repository makes the shared library that this module loads (or name one in BOOK_LIBRARY). x86-64 Linux only.
-A Book owns its numbers and names. Every call is committed and answers its figures, or raises Refused and has changed nothing. One call at a time
-runs on a Book, also from threads: it has a lock. To keep a book, write b.nums and b.names to a file; to have it back, make a Book of the same
-sizes and read them into it (file.readinto); it is not opened again, since opening is for a new book.
+A Book owns its numbers, its names and its last orders. Every call is committed and answers its figures, or raises Refused and has changed
+nothing. One call at a time runs on a Book, also from threads: it has a lock. To keep a book, write b.nums, b.names and b.last to a file; to have
+it back, make a Book of the same sizes and read them into it (file.readinto); it is not opened again, since opening is for a new book.
 """
 
 import ctypes
@@ -12,7 +12,7 @@ import os
 import threading
 from typing import List, NamedTuple, Union
 
-VERSION = 1  # BOOK_VERSION of include/book.h
+VERSION = 2  # BOOK_VERSION of include/book.h
 
 _path = os.environ.get("BOOK_LIBRARY") or os.path.join(
     os.path.dirname(os.path.dirname(os.path.realpath(__file__))), "target", "shared", "libbook.so"
@@ -27,7 +27,7 @@ if _lib.book_version() != VERSION:
 
 REFUSALS = {
     1: "the line has no form, or the buffer is too short",
-    2: "the head is out of range, or a length is not what it implies",
+    2: "the head is out of range, or the length of numbers or names is not what it implies",
     3: "the book is not new, or a value is out of range",
     4: "no such warehouse",
     5: "no such district",
@@ -38,6 +38,7 @@ REFUSALS = {
     10: "nobody has the last name",
     11: "no order slot, or no history slot, is left",
     12: "an item is not one of the book's, or its price is 0",
+    13: "the last orders have a wrong length or, in the district, a number out of range, or the order to be shown is out of range",
 }
 
 
@@ -185,6 +186,7 @@ _ITEM = ("price",)
 _STOCK = ("on_hand", "lots", "order_count", "remote_count")
 _ORDER = ("customer", "entry_date", "carrier", "line_count", "all_local", "waiting")
 _HISTORY = ("customer", "custdistrict", "custwarehouse", "district", "warehouse", "date", "amount")
+_NAME_BYTES = 32  # of a customer; the last orders have one number for as many
 
 
 class _CLine(ctypes.Structure):
@@ -203,6 +205,10 @@ def _u64(name, value):
 
 def _numbers(**named):
     return [_u64(name, value) for name, value in named.items()]
+
+
+def _slice(array):
+    return [array, ctypes.c_size_t(len(array))]
 
 
 def _lines(lines):
@@ -242,13 +248,18 @@ def _padded(part):
 
 
 class Book:
-    """A new book: the next order numbers are 1, all else is 0 and the names are spaces. Set the rows and names, then open it."""
+    """A new book: the next order numbers are 1, all else is 0 and the names are spaces. Set the rows and names, then open it.
+
+    nums, names and last are ctypes arrays, lent to the calls as they are. last has for each customer its largest order number, 0 for none:
+    new_order writes it, order_status reads it, the other calls do not take it.
+    """
 
     def __init__(self, sizes):
         self.sizes = Sizes(*sizes)
         numbers, name_bytes = _places(self.sizes)[:2]
         self.nums = (ctypes.c_int64 * numbers)(*self.sizes)
         self.names = (ctypes.c_uint8 * name_bytes)()
+        self.last = (ctypes.c_int64 * (name_bytes // _NAME_BYTES))()
         self._lock = threading.Lock()
         ctypes.memset(self.names, ord(" "), name_bytes)
         for warehouse in range(1, self.sizes.warehouses + 1):
@@ -286,10 +297,14 @@ class Book:
             raise ValueError(f"{last!r}, {first!r} is no name of a book")
         self.names[at : at + 32] = list(name)
 
+    def last_order(self, warehouse, district, customer):
+        """The largest of a customer's order numbers, 0 for none, as last has it."""
+        return self.last[_places(self.sizes, warehouse, district, customer)[9] // _NAME_BYTES]
+
     # The calls
 
     def _call(self, call, parameters, figures, *others):
-        lent = [self.nums, ctypes.c_size_t(len(self.nums)), self.names, ctypes.c_size_t(len(self.names))]
+        lent = _slice(self.nums) + _slice(self.names)
         with self._lock:
             return _answer(call, lent + parameters, figures, *others)
 
@@ -299,7 +314,7 @@ class Book:
 
     def new_order(self, warehouse, district, customer, date, lines):
         order = _numbers(warehouse=warehouse, district=district, customer=customer, date=date)
-        return Ordered(*self._call(_lib.book_new_order, order + _lines(lines), 2))
+        return Ordered(*self._call(_lib.book_new_order, _slice(self.last) + order + _lines(lines), 2))
 
     def payment(self, warehouse, district, custwarehouse, custdistrict, who, date, amount):
         places = _numbers(warehouse=warehouse, district=district, custwarehouse=custwarehouse, custdistrict=custdistrict)
@@ -315,7 +330,7 @@ class Book:
     def order_status(self, warehouse, district, who):
         balance = (ctypes.c_int64 * 1)()
         asked = _numbers(warehouse=warehouse, district=district) + _who(who)
-        customer, order, date, carrier, start, count = self._call(_lib.book_order_status, asked, 6, balance)
+        customer, order, date, carrier, start, count = self._call(_lib.book_order_status, _slice(self.last) + asked, 6, balance)
         lines = [ShownLine(*self.nums[at : at + 5]) for at in range(start, start + count, 5)]
         return Status(customer, balance[0], order, date, carrier, lines)
 

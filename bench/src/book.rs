@@ -1,6 +1,7 @@
 //! Books in use, filled as TPC-C 4.3.3 fills its tables; the same for the same size.
 
 use second::layout::{order, order_line, Layout};
+use second::lists::last;
 use second::lists::random::Random;
 use second::replay::Lent;
 
@@ -82,8 +83,9 @@ pub fn make(size: &Size) -> Lent {
     }
     put_histories(random, &mut nums, size);
     Lent {
-        nums,
+        last: last::scanned(&nums, &layout),
         names: names(random, size),
+        nums,
     }
 }
 

@@ -99,7 +99,7 @@ fn put_legend(svg: &mut String) {
     let entries = [
         ("proved", "proved library", 12.0),
         ("sql", "SQLite in memory, used rows not judged", 150.0),
-        ("sum", "plain sum of the used rows", 460.0),
+        ("sum", "plain sum of what is scanned", 460.0),
     ];
     for (class, name, x) in entries {
         bar(svg, class, (x, 57.0), 12.0, 12.0);

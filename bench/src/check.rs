@@ -50,9 +50,9 @@ impl Engines {
 }
 
 /// Random lists with faults, each from a small book just opened; gives how often each refusal was answered, committed calls at 0.
-pub fn random_lists() -> [usize; 13] {
+pub fn random_lists() -> [usize; 14] {
     let random = &mut Random::new(7);
-    let mut answered = [0; 13];
+    let mut answered = [0; 14];
     for list in 0..LISTS {
         let mut layout = if list % 3 == 0 {
             books::crowded(random)

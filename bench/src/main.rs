@@ -32,19 +32,21 @@ fn main() {
             measure::alone(call, &sized(warehouses, NEARLY));
         }
         [chart] => {
-            let (title, rows) = measured(5);
-            std::fs::write(chart, chart::draw(title, &rows)).expect("the chart can be written");
+            let (title, book) = measured(5);
+            let drawn = chart::draw(title, &book.rows);
+            std::fs::write(chart, drawn).expect("the chart can be written");
             grown();
         }
         _ => eprintln!("usage: bench CHART [quick | profile CALL WAREHOUSES]"),
     }
 }
 
-/// All tables of books up to `most` warehouses; the last book's rows.
-fn measured(most: usize) -> (&'static str, Vec<measure::Row>) {
+/// All tables of books up to `most` warehouses; what was measured on the last.
+fn measured(most: usize) -> (&'static str, measure::Measured) {
     tables::machine();
     checked();
     let mut books = compared(most);
+    tables::passes(&books);
     tables::missed(&books);
     books.pop().expect("a book")
 }
@@ -52,7 +54,7 @@ fn measured(most: usize) -> (&'static str, Vec<measure::Row>) {
 /// The same answers first.
 fn checked() {
     let answered = check::random_lists();
-    let refusals: Vec<String> = (1..13)
+    let refusals: Vec<String> = (1..14)
         .filter(|&n| answered[n] > 0)
         .map(|n| format!("{n}: {}", answered[n]))
         .collect();
@@ -78,7 +80,7 @@ fn sized(warehouses: usize, orders: usize) -> Size {
 }
 
 /// The tables of each book up to `most` warehouses.
-fn compared(most: usize) -> Vec<(&'static str, Vec<measure::Row>)> {
+fn compared(most: usize) -> Vec<(&'static str, measure::Measured)> {
     println!("\n## Call by call");
     let books = [
         ("W 1, half full", 1, HALF),
@@ -90,9 +92,9 @@ fn compared(most: usize) -> Vec<(&'static str, Vec<measure::Row>)> {
         .into_iter()
         .filter(|&(_, warehouses, _)| warehouses <= most);
     let measured = chosen.map(|(title, warehouses, orders)| {
-        let rows = measure::book(&sized(warehouses, orders), 1);
-        tables::compared(title, &rows);
-        (title, rows)
+        let book = measure::book(&sized(warehouses, orders), 1);
+        tables::compared(title, &book.rows);
+        (title, book)
     });
     measured.collect()
 }

@@ -8,7 +8,7 @@ use crate::sums;
 use proved::ProvedEngine;
 use second::layout::Layout;
 use second::lists::random::Random;
-use second::replay::{Lent, SecondEngine};
+use second::replay::{Engine, Lent, SecondEngine};
 use second::Request;
 use std::hint::black_box;
 use std::mem::swap;
@@ -26,6 +26,22 @@ pub struct Row {
     pub to_second: f64,
     pub to_sql: f64,
     pub to_sum: Option<f64>,
+}
+
+/// The pass over a district's last orders by itself, on the requests of New-Order: microseconds of the plain sum and of the two
+/// engines' passes, and the quotients, by the medians as above.
+pub struct Pass {
+    pub sum: f64,
+    pub proved: f64,
+    pub second: f64,
+    pub to_sum: f64,
+    pub to_second: f64,
+}
+
+/// What was measured on one book.
+pub struct Measured {
+    pub rows: Vec<Row>,
+    pub pass: Pass,
 }
 
 const CONTENDERS: usize = 4;
@@ -97,8 +113,8 @@ impl Field {
     }
 }
 
-/// One row for each call; each has its rounds divided by `fewer`.
-pub fn book(size: &Size, fewer: usize) -> Vec<Row> {
+/// One row for each call, and the pass; each has its rounds divided by `fewer`.
+pub fn book(size: &Size, fewer: usize) -> Measured {
     let mut field = Field::on(book::make(size), size.layout());
     let mut asker = Asker::new(size, 2);
     for request in asker.batch(Call::Mix, 200) {
@@ -114,7 +130,80 @@ pub fn book(size: &Size, fewer: usize) -> Vec<Row> {
         proved.lent == second.lent && second.lent == field.summed.lent,
         "the books differ at the end"
     );
-    rows
+    let pass = pass(&mut field, &mut asker, 64 / fewer);
+    Measured { rows, pass }
+}
+
+/// The three in turn, another one first each time.
+fn pass(field: &mut Field, asker: &mut Asker, rounds: usize) -> Pass {
+    let mut spent: [Vec<f64>; 3] = Default::default();
+    for round in 0..rounds {
+        let requests = refused_by_12(asker.batch(Call::NewOrder, 100), field.layout.items);
+        for turn in 0..3 {
+            let which = (round + turn) % 3;
+            let Engines { proved, second, .. } = &mut field.engines;
+            let micros = match which {
+                0 => summed(&field.summed.lent, &field.layout, &requests),
+                1 => own_pass(proved, &requests),
+                _ => own_pass(second, &requests),
+            };
+            spent[which].push(micros);
+        }
+    }
+    let quotient = |by: usize| median(spent[1].iter().zip(&spent[by]).map(|(p, s)| p / s));
+    Pass {
+        sum: median(spent[0].iter().copied()),
+        proved: median(spent[1].iter().copied()),
+        second: median(spent[2].iter().copied()),
+        to_sum: quotient(0),
+        to_second: quotient(2),
+    }
+}
+
+/// Orders of one line whose item the book lacks: each is refused behind the pass and writes nothing.
+fn refused_by_12(requests: Vec<Request>, items: usize) -> Vec<Request> {
+    let mut refused = requests;
+    for request in &mut refused {
+        if let Request::NewOrder(r) = request {
+            r.lines.truncate(1);
+            r.lines[0].item = items as u64 + 1;
+        }
+    }
+    refused
+}
+
+/// Microseconds of the plain sum over the last orders of each request's district, after a turn that is not timed.
+fn summed(lent: &Lent, layout: &Layout, requests: &[Request]) -> f64 {
+    let batch = || {
+        requests.iter().fold(0, |all, request| {
+            all ^ sums::used_rows(black_box(lent), layout, request)
+        })
+    };
+    black_box(batch());
+    micros(requests.len(), batch)
+}
+
+/// Microseconds of the pass inside an engine's New-Order: what the requests take, refused by 12 behind it, less what the same take where
+/// the slice is a number short, refused by 13 before it.
+fn own_pass<E: Engine>(book: &mut InBook<E>, requests: &[Request]) -> f64 {
+    let behind = carried(book, requests);
+    let cut = book.lent.last.pop();
+    let before = carried(book, requests);
+    book.lent.last.extend(cut);
+    behind - before
+}
+
+/// Microseconds a request of an engine, after a turn that is not timed.
+fn carried<E: Engine>(book: &mut InBook<E>, requests: &[Request]) -> f64 {
+    black_box(book.batch(requests));
+    micros(requests.len(), || book.batch(requests))
+}
+
+/// Microseconds for each of `count` in a run.
+fn micros<T>(count: usize, run: impl FnOnce() -> T) -> f64 {
+    let start = Instant::now();
+    black_box(run());
+    start.elapsed().as_secs_f64() * 1e6 / count as f64
 }
 
 fn row(field: &mut Field, asker: &mut Asker, timed: &Timed, fewer: usize) -> Row {

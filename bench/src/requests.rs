@@ -42,8 +42,8 @@ pub const CALLS: [Timed; 8] = [
     timed(Call::PaymentByNumber, "Payment by number", 150, 48),
     timed(Call::PaymentByName, "Payment by name", 45, 32),
     timed(Call::Delivery, "Delivery", 2, 64),
-    timed(Call::StatusByNumber, "Order-Status by number", 10, 64),
-    timed(Call::StatusByName, "Order-Status by name", 10, 64),
+    timed(Call::StatusByNumber, "Order-Status by number", 100, 64),
+    timed(Call::StatusByName, "Order-Status by name", 45, 64),
     timed(Call::StockLevel, "Stock-Level", 10, 64),
     timed(Call::Mix, "TPC-C's mix", 100, 16),
 ];

@@ -1,6 +1,6 @@
 //! The tables, in Markdown.
 
-use crate::measure::Row;
+use crate::measure::{Measured, Row};
 use std::fs;
 
 /// A time with three figures that count.
@@ -38,8 +38,22 @@ pub fn compared(title: &str, rows: &[Row]) {
     }
 }
 
+/// The pass over a district's last orders on each book.
+pub fn passes(books: &[(&str, Measured)]) {
+    println!("\n### The pass over a district's last orders\n");
+    println!("C numbers; a New-Order refused by 12, behind the pass, less the same refused by 13 for the slice's length, before it.\n");
+    println!("| Book | Proved, µs | Second engine, µs | Plain sum, µs | Proved ÷ second | Proved ÷ sum |");
+    println!("|---|--:|--:|--:|--:|--:|");
+    for (title, book) in books {
+        let pass = &book.pass;
+        let [proved, second, sum] = [pass.proved, pass.second, pass.sum].map(time);
+        let (to_second, to_sum) = (pass.to_second, pass.to_sum);
+        println!("| {title} | {proved} | {second} | {sum} | {to_second:.2} | {to_sum:.2} |");
+    }
+}
+
 /// Times at each size, and the largest as a multiple of the smallest.
-pub fn growth(titles: &[&str], sizes: &[Vec<Row>]) {
+pub fn growth(titles: &[&str], sizes: &[Measured]) {
     let heads: Vec<String> = titles.iter().map(|title| format!("{title}, µs")).collect();
     println!(
         "\n| Call | Who | {} | {} ÷ {} |",
@@ -48,7 +62,7 @@ pub fn growth(titles: &[&str], sizes: &[Vec<Row>]) {
         titles[0]
     );
     println!("|---|---|{}--:|", "--:|".repeat(titles.len()));
-    for (place, first) in sizes[0].iter().enumerate() {
+    for (place, first) in sizes[0].rows.iter().enumerate() {
         line(first.name, "proved", sizes, |rows| Some(rows[place].proved));
         line("", "second engine", sizes, |rows| Some(rows[place].second));
         line("", "SQLite", sizes, |rows| Some(rows[place].sql));
@@ -56,8 +70,8 @@ pub fn growth(titles: &[&str], sizes: &[Vec<Row>]) {
     }
 }
 
-fn line(call: &str, who: &str, sizes: &[Vec<Row>], pick: impl Fn(&[Row]) -> Option<f64>) {
-    let times: Vec<f64> = sizes.iter().filter_map(|rows| pick(rows)).collect();
+fn line(call: &str, who: &str, sizes: &[Measured], pick: impl Fn(&[Row]) -> Option<f64>) {
+    let times: Vec<f64> = sizes.iter().filter_map(|book| pick(&book.rows)).collect();
     if let (Some(first), Some(last)) = (times.first(), times.last()) {
         let cells: Vec<String> = times.iter().map(|&t| time(t)).collect();
         println!(
@@ -69,11 +83,11 @@ fn line(call: &str, who: &str, sizes: &[Vec<Row>], pick: impl Fn(&[Row]) -> Opti
 }
 
 /// The rows that miss what was set out to reach, over all books.
-pub fn missed(books: &[(&str, Vec<Row>)]) {
+pub fn missed(books: &[(&str, Measured)]) {
     println!("\n### What misses the mark\n\nSlower than the second engine, or under half the speed of the plain sum (Delivery, Order-Status, Stock-Level):\n");
     let mut any = false;
-    for (title, rows) in books {
-        for row in rows {
+    for (title, book) in books {
+        for row in &book.rows {
             any |= miss(title, row);
         }
     }
@@ -87,7 +101,7 @@ fn miss(title: &str, row: &Row) -> bool {
     let to_second = row.to_second;
     let to_sum = row
         .to_sum
-        .filter(|_| row.call != Call::PaymentByName)
+        .filter(|_| !matches!(row.call, Call::NewOrder | Call::PaymentByName))
         .unwrap_or_default();
     if to_second > 1.0 {
         println!(

@@ -1,5 +1,6 @@
 /* The headers tried as a caller would: the layout against the proved `layout`, the ranges against opening and the calls, the columns against what the
-   calls write, the calls on a struct book against the flat functions, NULL with length 0. Compiles as C99 and as C++11. */
+   calls write, the last orders by what is refused and written, the calls on a struct book against the flat functions, NULL with length 0. Compiles
+   as C99 and as C++11. */
 #include <stdio.h>
 #include <stdlib.h>
 #include "book.h"
@@ -69,6 +70,7 @@ static void layout(void)
     see(book_order_at(&s, w, d, o) == out[9], "order row");
     see(book_history_at(&s, h) == out[10], "history row");
     see(book_name_at(&s, w, d, c) == out[11], "name");
+    see(book_last_numbers(&s) * BOOK_NAME_WIDTH == out[3] && book_last_at(&s, w, d, c) * BOOK_NAME_WIDTH == out[11], "last orders lie as names do");
 }
 
 /* ---- A small book: W 2, C 3, I 4, O 5, H 6; everything set ---- */
@@ -76,10 +78,19 @@ static void layout(void)
 static const struct book_sizes small = {2, 3, 4, 5, 6};
 static int64_t nums[8608], saved[8608];
 static uint8_t names[2 * 10 * 3 * BOOK_NAME_WIDTH];
+static int64_t last[2 * 10 * 3], saved_last[2 * 10 * 3];
+
+static struct book lent(void)
+{
+    struct book book = book_lent(nums, book_numbers(&small), names, book_name_bytes(&small));
+    book.last = last, book.last_len = book_last_numbers(&small);
+    return book;
+}
 
 static struct book fresh(void)
 {
     uint64_t w, d, c, i;
+    memset(last, 0, sizeof last);
     book_blank(&small, nums, names);
     for (w = 1; w <= small.warehouses; w++) {
         nums[book_warehouse_at(&small, w) + BOOK_WAREHOUSE_TAX] = 1000;
@@ -93,7 +104,7 @@ static struct book fresh(void)
         }
     }
     for (i = 1; i <= small.items; i++) nums[book_item_at(&small, i) + BOOK_ITEM_PRICE] = (int64_t)(100 * i);
-    return book_lent(nums, book_numbers(&small), names, book_name_bytes(&small));
+    return lent();
 }
 
 /* Opening with one number set: accepted just within low to high. */
@@ -225,6 +236,7 @@ static void story(void)
             at(line, BOOK_LINE_DELIVERY_DATE) == 0,
         "the order's second line");
     see(at(book_district_at(s, 1, 4), BOOK_DISTRICT_NEXT_ORDER) == 2, "next order number");
+    see(last[book_last_at(s, 1, 4, 3)] == 1, "the customer's last order");
     order = order_of(2, 4, 3, lines + 1, 1);
     see(book_order(&book, &order).refusal == BOOK_COMMITTED, "an order of the supplying warehouse");
     row = book_stock_at(s, 2, 4);
@@ -289,6 +301,15 @@ static uint64_t asks_level(struct book *book)
     return book_level(book, &q).refusal;
 }
 
+static uint64_t delivers(struct book *book)
+{
+    struct book_deliver_request q;
+    memset(&q, 0, sizeof q);
+    q.warehouse = 1, q.carrier = 1, q.date = 1;
+    see(book_deliver(book, &q).detail == 0, "a delivery's detail");
+    return book_deliver(book, &q).refusal;
+}
+
 static uint64_t pays(struct book *book)
 {
     struct book_pay_request q;
@@ -297,16 +318,28 @@ static uint64_t pays(struct book *book)
     return book_pay(book, &q).refusal;
 }
 
-/* In the book that story leaves. */
-static void used(uint64_t (*call)(struct book *), size_t at, int64_t low, int64_t high, const char *what)
+/* In the book that story leaves; just outside, the call is refused by this number. */
+static void used_by(uint64_t (*call)(struct book *), uint64_t refusal, size_t at, int64_t low, int64_t high, const char *what)
 {
     int64_t tries[4] = {low, high, low - 1, high + 1};
-    struct book book = book_lent(nums, book_numbers(&small), names, book_name_bytes(&small));
+    struct book book = lent();
     for (int k = 0; k < 4; k++) {
         memcpy(nums, saved, sizeof nums);
         nums[at] = tries[k];
-        see(call(&book) == (k < 2 ? BOOK_COMMITTED : BOOK_BAD_ROW), what);
+        see(call(&book) == (k < 2 ? (uint64_t)BOOK_COMMITTED : refusal), what);
     }
+}
+
+static void used(uint64_t (*call)(struct book *), size_t at, int64_t low, int64_t high, const char *what)
+{
+    used_by(call, BOOK_BAD_ROW, at, low, high, what);
+}
+
+/* A number of an order: Delivery uses it, Order-Status shows it. */
+static void in_order(size_t at, int64_t low, int64_t high, const char *what)
+{
+    used(delivers, at, low, high, what);
+    used_by(asks_status, BOOK_BAD_LAST, at, low, high, what);
 }
 
 static void in_use(void)
@@ -323,24 +356,102 @@ static void in_use(void)
     used(asks_level, stock + BOOK_STOCK_LOTS, 0, BOOK_MAX_LOTS, "lots to date");
     used(asks_level, stock + BOOK_STOCK_ORDER_COUNT, 0, BOOK_MAX_COUNT, "order count");
     used(asks_level, stock + BOOK_STOCK_REMOTE_COUNT, 0, BOOK_MAX_COUNT, "remote count");
-    used(asks_status, order + BOOK_ORDER_CUSTOMER, 1, 3, "an order's customer");
-    used(asks_status, order + BOOK_ORDER_ENTRY_DATE, BOOK_MIN_DATE, BOOK_MAX_DATE, "entry date");
-    used(asks_status, order + BOOK_ORDER_CARRIER, 0, BOOK_MAX_CARRIER, "an order's carrier");
-    used(asks_status, order + BOOK_ORDER_LINE_COUNT, BOOK_MIN_LINES, 2, "line count"); /* the third line is no line */
-    used(asks_status, order + BOOK_ORDER_ALL_LOCAL, 0, 1, "all-local");
-    used(asks_status, order + BOOK_ORDER_WAITING, 0, 1, "waiting");
-    used(asks_status, line + BOOK_LINE_ITEM, 1, 4, "a line's item");
-    used(asks_status, line + BOOK_LINE_SUPPLY, 1, 2, "a line's supplying warehouse");
-    used(asks_status, line + BOOK_LINE_QUANTITY, BOOK_MIN_QUANTITY, BOOK_MAX_QUANTITY, "a line's quantity");
-    used(asks_status, line + BOOK_LINE_AMOUNT, BOOK_MIN_LINE_AMOUNT, BOOK_MAX_LINE_AMOUNT, "a line's amount");
-    used(asks_status, line + BOOK_LINE_DELIVERY_DATE, 0, BOOK_MAX_DATE, "delivery date");
+    in_order(order + BOOK_ORDER_CUSTOMER, 1, 3, "an order's customer");
+    in_order(order + BOOK_ORDER_ENTRY_DATE, BOOK_MIN_DATE, BOOK_MAX_DATE, "entry date");
+    in_order(order + BOOK_ORDER_CARRIER, 0, BOOK_MAX_CARRIER, "an order's carrier");
+    in_order(order + BOOK_ORDER_LINE_COUNT, BOOK_MIN_LINES, 2, "line count"); /* the third line is no line */
+    in_order(order + BOOK_ORDER_ALL_LOCAL, 0, 1, "all-local");
+    in_order(order + BOOK_ORDER_WAITING, 0, 1, "waiting");
+    in_order(line + BOOK_LINE_ITEM, 1, 4, "a line's item");
+    in_order(line + BOOK_LINE_SUPPLY, 1, 2, "a line's supplying warehouse");
+    in_order(line + BOOK_LINE_QUANTITY, BOOK_MIN_QUANTITY, BOOK_MAX_QUANTITY, "a line's quantity");
+    in_order(line + BOOK_LINE_AMOUNT, BOOK_MIN_LINE_AMOUNT, BOOK_MAX_LINE_AMOUNT, "a line's amount");
+    in_order(line + BOOK_LINE_DELIVERY_DATE, 0, BOOK_MAX_DATE, "delivery date");
+}
+
+/* ---- The last orders ---- */
+
+static uint64_t orders(struct book *book)
+{
+    struct book_order_request q = order_of(1, 4, 2, &one, 1);
+    struct book_order_answer a = book_order(book, &q);
+    see(a.detail == 0, "an order's detail");
+    return a.refusal;
+}
+
+/* The length that New-Order and Order-Status accept is book_last_numbers; the other calls take any. */
+static void last_length(void)
+{
+    static int64_t longer[sizeof last / sizeof *last + 1];
+    size_t right = book_last_numbers(&small), lengths[4] = {right, right - 1, right + 1, 0};
+    for (int k = 0; k < 4; k++) {
+        struct book book = fresh();
+        uint64_t refusal = k == 0 ? BOOK_COMMITTED : BOOK_BAD_LAST;
+        memset(longer, 0, sizeof longer);
+        book.last = lengths[k] == 0 ? NULL : longer, book.last_len = lengths[k];
+        see(asks_status(&book) == refusal && orders(&book) == refusal, "the last orders' length");
+        see(k == 0 || longer[book_last_at(&small, 1, 4, 2)] == 0, "a refused order leaves the last orders");
+        see(book_open(&book).refusal == (k == 0 ? BOOK_NOT_NEW : BOOK_COMMITTED), "opening does not take them");
+        see(pays(&book) == BOOK_COMMITTED && delivers(&book) == BOOK_COMMITTED && asks_level(&book) == BOOK_COMMITTED, "calls that do not take them");
+    }
+    {
+        struct book book = book_lent(nums, book_numbers(&small), names, book_name_bytes(&small));
+        fresh();
+        see(book.last == NULL && book.last_len == 0 && orders(&book) == BOOK_BAD_LAST, "book_lent lends none");
+    }
+}
+
+/* Committed, New-Order writes the order's number at the customer's place, and nothing else. */
+static void last_places(void)
+{
+    struct book book = fresh();
+    uint64_t w, d, c;
+    for (w = 1; w <= small.warehouses; w++)
+        for (d = 1; d <= BOOK_DISTRICTS; d++)
+            for (c = 1; c <= small.customers; c++) {
+                struct book_order_request q = order_of(w, d, c, &one, 1);
+                struct book_order_answer a;
+                memcpy(saved_last, last, sizeof last);
+                a = book_order(&book, &q);
+                saved_last[book_last_at(&small, w, d, c)] = (int64_t)a.order;
+                see(a.refusal == BOOK_COMMITTED && a.order == c && memcmp(saved_last, last, sizeof last) == 0, "the place of a customer's last order");
+            }
+}
+
+/* In a district with two orders, of customers 3 and 2: any customer's number from 0 to 2 is accepted, no other, and the one asked for is shown. */
+static void last_range(void)
+{
+    const int64_t tries[6] = {0, 2, -1, 3, INT64_MIN, INT64_MAX};
+    const struct book_sizes *s = &small;
+    for (int k = 0; k < 6; k++)
+        for (uint64_t c = 1; c <= s->customers; c++) {
+            struct book book = fresh();
+            struct book_order_request first = order_of(1, 4, 3, &one, 1);
+            uint64_t refusal = k < 2 ? BOOK_COMMITTED : BOOK_BAD_LAST;
+            struct book_status_request q;
+            memset(&q, 0, sizeof q);
+            q.warehouse = 1, q.district = 4, q.who = book_by_number(c);
+            see(book_order(&book, &first).refusal == BOOK_COMMITTED && orders(&book) == BOOK_COMMITTED, "two orders");
+            last[book_last_at(s, 1, 4, c)] = tries[k];
+            see(asks_status(&book) == refusal, "a last order's range, for a status");
+            if (k < 2) see(book_status(&book, &q).order == (uint64_t)tries[k], "the order that is named");
+            memcpy(saved_last, last, sizeof last);
+            see(orders(&book) == refusal, "a last order's range, for an order");
+            if (k < 2) saved_last[book_last_at(s, 1, 4, 2)] = 3;
+            see(memcmp(saved_last, last, sizeof last) == 0, "what an order leaves of the last orders");
+        }
+    {
+        struct book book = fresh();
+        last[book_last_at(s, 1, 5, 1)] = -1, last[book_last_at(s, 2, 4, 1)] = 1;
+        see(asks_status(&book) == BOOK_COMMITTED && orders(&book) == BOOK_COMMITTED, "last orders of other districts");
+    }
 }
 
 /* ---- Refusals by name, and that they leave the book; NULL with length 0 ---- */
 
 static void refused(void)
 {
-    struct book book = fresh(), empty;
+    struct book book = fresh(), empty, unsaid;
     struct book_line none = {5, 1, 1};
     struct book_order_request q = order_of(3, 1, 1, &one, 1), null_lines = order_of(1, 1, 1, NULL, 0), no_item = order_of(1, 1, 1, &none, 1);
     struct book_pay_request pay;
@@ -364,6 +475,10 @@ static void refused(void)
     see(book_open(&empty).refusal == BOOK_BAD_HEAD && book_order(&empty, &q).refusal == BOOK_BAD_HEAD && book_pay(&empty, &pay).refusal == BOOK_BAD_HEAD &&
             book_status(&empty, &ask).refusal == BOOK_BAD_HEAD,
         "NULL for a book");
+    unsaid = book_lent(nums, book_numbers(&small), names, book_name_bytes(&small));
+    q = order_of(1, 1, 1, &one, 1), ask.who = book_by_number(1);
+    see(book_order(&unsaid, &q).refusal == BOOK_BAD_LAST && book_status(&unsaid, &ask).refusal == BOOK_BAD_LAST, "NULL for the last orders");
+    see(book_order(&unsaid, &no_item).refusal == BOOK_BAD_LAST && book_order(&unsaid, &no_item).detail == 0, "13 before 12");
     see(memcmp(saved, nums, sizeof nums) == 0, "a refused call changes nothing");
     nums[book_customer_at(&small, 1, 1, 1) + BOOK_CUSTOMER_BALANCE] = BOOK_MAX_MONEY + 1;
     q = order_of(1, 1, 1, &one, 1);
@@ -371,6 +486,8 @@ static void refused(void)
     book = fresh();
     for (int k = 0; k < 5; k++) see(book_order(&book, &q).refusal == BOOK_COMMITTED, "five orders");
     see(book_order(&book, &q).refusal == BOOK_NO_ROOM, "no slot");
+    last[book_last_at(&small, 1, 1, 2)] = 6;
+    see(book_order(&book, &q).refusal == BOOK_BAD_LAST, "13 before 11");
 }
 
 /* ---- Request lines ---- */
@@ -425,9 +542,11 @@ static void lines(void)
 int main(void)
 {
     see(book_version() == BOOK_VERSION, "version");
-    see(book_numbers(&small) == sizeof nums / sizeof *nums && book_name_bytes(&small) == sizeof names, "the small book's room");
+    see(book_numbers(&small) == sizeof nums / sizeof *nums && book_name_bytes(&small) == sizeof names &&
+            book_last_numbers(&small) == sizeof last / sizeof *last,
+        "the small book's room");
     for (int k = 0; k < 200000; k++) layout();
-    masters(), ranges(), story(), in_use(), refused(), lines();
+    masters(), ranges(), story(), in_use(), last_length(), last_places(), last_range(), refused(), lines();
     printf("header: %lu facts, %lu wrong\n", tried, wrong);
     return wrong != 0;
 }

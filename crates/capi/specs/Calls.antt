@@ -16,7 +16,7 @@ use Rattle.model.specs.declared.StockLevel.{StockLevel}
 use Rattle.model.specs.declared.ReadAnswer.{ReadAnswer}
 use Rattle.model.specs.Names.{Who}
 use Rattle.model.specs.Opening.{openingAnswer}
-use Rattle.model.specs.NewOrder.{newOrderAnswer, newOrderBook}
+use Rattle.model.specs.NewOrder.{newOrderAnswer, newOrderBook, newOrderLast}
 use Rattle.model.specs.Payment.{paymentAnswer, paymentBook}
 use Rattle.model.specs.Delivery.{deliveryAnswer, deliveryOrders, deliveryBook}
 use Rattle.model.specs.OrderStatus.{statusAnswer, statusPart}
@@ -31,9 +31,10 @@ use Rattle.places.specs.Places.{placesOut}
 pub record OpeningC (b : List ℤ) (names : List ℕ) (out : List ℕ) : Type 0 where
   pub answers : out ≡ bareOut (openingAnswer b names)
 
-pub record NewOrderC (b : List ℤ) (names : List ℕ) (q : NewOrder) (lines : List Line) (out : List ℕ) (left : List ℤ) : Type 0 where
-  pub answers : out ≡ twoOut (newOrderAnswer b names q lines)
-  pub leaves : left ≡ newOrderBook b names q lines
+pub record NewOrderC (b : List ℤ) (names : List ℕ) (last : List ℤ) (q : NewOrder) (lines : List Line) (out : List ℕ) (left noted : List ℤ) : Type 0 where
+  pub answers : out ≡ twoOut (newOrderAnswer b names last q lines)
+  pub leaves : left ≡ newOrderBook b names last q lines
+  pub notes : noted ≡ newOrderLast b names last q lines
 
 pub record PaymentC (b : List ℤ) (names : List ℕ) (q : Payment) (who : Who) (out : List ℕ) (balance left : List ℤ) : Type 0 where
   pub answers : out ≡ oneOut (paymentAnswer b names q who)
@@ -46,9 +47,9 @@ pub record DeliveryC (b : List ℤ) (names : List ℕ) (q : Delivery) (out order
   pub leaves : left ≡ deliveryBook b names q
 
 -- the last two numbers name the part of the book that is shown, which lies in the book
-pub record StatusC (b : List ℤ) (names : List ℕ) (q : OrderStatus) (who : Who) (out : List ℕ) (balance : List ℤ) : Type 0 where
-  pub answers : out ≡ statusOut (statusAnswer b names q who) (statusPart b names q who)
-  pub balances : balance ≡ balanceOut (statusAnswer b names q who)
+pub record StatusC (b : List ℤ) (names : List ℕ) (last : List ℤ) (q : OrderStatus) (who : Who) (out : List ℕ) (balance : List ℤ) : Type 0 where
+  pub answers : out ≡ statusOut (statusAnswer b names last q who) (statusPart b names last q who)
+  pub balances : balance ≡ balanceOut (statusAnswer b names last q who)
   pub within : getD out 6 0 + getD out 7 0 ≤ length b
 
 pub record StockLevelC (b : List ℤ) (names : List ℕ) (q : StockLevel) (out : List ℕ) : Type 0 where

@@ -21,9 +21,9 @@ use model::StockLevel;
 // The version of these functions: BOOK_VERSION of include/book.h.
 #[no_mangle]
 pub extern "C" fn book_version() -> u64
-    ensures { λ r. ⌜ r ≡ 1 ⌝ }
+    ensures { λ r. ⌜ r ≡ 2 ⌝ }
 {
-    1
+    2
 }
 
 // Opening.
@@ -36,11 +36,12 @@ pub extern "C" fn book_opening(nums: &[i64], names: &[u8], out: &mut [u64; 2])
     *out = flat::opening_out(o);
 }
 
-// New-Order; the lines are a lent slice of records of any length, read where they lie.
+// New-Order; the lines are a lent slice of records of any length, read where they lie. last has the last order of each customer.
 #[no_mangle]
 pub extern "C" fn book_new_order(
     nums: &mut [i64],
     names: &[u8],
+    last: &mut [i64],
     warehouse: u64,
     district: u64,
     customer: u64,
@@ -48,8 +49,8 @@ pub extern "C" fn book_new_order(
     lines: &[Line],
     out: &mut [u64; 4],
 )
-    ensures { λ _. ⌜ NewOrderC (now (nums .entry)) (now (names .entry)) (newOrderOf warehouse district customer date) (now (lines .entry))
-        (now (out .exit)) (now (nums .exit)) ⌝ }
+    ensures { λ _. ⌜ NewOrderC (now (nums .entry)) (now (names .entry)) (now (last .entry)) (newOrderOf warehouse district customer date) (now (lines .entry))
+        (now (out .exit)) (now (nums .exit)) (now (last .exit)) ⌝ }
 {
     let q = NewOrder {
         warehouse,
@@ -57,7 +58,7 @@ pub extern "C" fn book_new_order(
         customer,
         date,
     };
-    let a = new_order::new_order(nums, names, q, lines);
+    let a = new_order::new_order(nums, names, last, q, lines);
     flat::put_new_order(out, a)
 }
 
@@ -122,11 +123,13 @@ pub extern "C" fn book_delivery(
     *orders = os;
 }
 
-// Order-Status by customer number, or by last name where named is true; the lines are the part of nums that out names at its end.
+// Order-Status by customer number, or by last name where named is true; the lines are the part of nums that out names at its end;
+// last has the last order of each customer.
 #[no_mangle]
 pub extern "C" fn book_order_status(
     nums: &[i64],
     names: &[u8],
+    last: &[i64],
     warehouse: u64,
     district: u64,
     named: bool,
@@ -135,7 +138,7 @@ pub extern "C" fn book_order_status(
     out: &mut [u64; 8],
     balance: &mut [i64; 1],
 )
-    ensures { λ _. ⌜ StatusC (now (nums .entry)) (now (names .entry)) (statusOf warehouse district) (whoOf (selectionOf named number) (now (name .entry)))
+    ensures { λ _. ⌜ StatusC (now (nums .entry)) (now (names .entry)) (now (last .entry)) (statusOf warehouse district) (whoOf (selectionOf named number) (now (name .entry)))
         (now (out .exit)) (now (balance .exit)) ⌝ }
 {
     let q = OrderStatus {
@@ -143,7 +146,7 @@ pub extern "C" fn book_order_status(
         district,
     };
     let who = flat::selection(named, number);
-    let s = order_status::status_shown(nums, names, q, who, name);
+    let s = order_status::status_shown(nums, names, last, q, who, name);
     let o = s.outcome;
     let part = s.part;
     *out = flat::status_out(o, part.from, part.count);

@@ -1,15 +1,14 @@
 -- Input in blocks: lines leave what the requests that they hold leave; so all input is answered.
 -- Assumes nothing.
-use mathlib.Core.Path.{_≡_, refl, sym, ap, _∙_, subst}
+use mathlib.Core.Path.{_≡_, refl, sym, _∙_, subst}
 use mathlib.Core.Bool.{Bool, true, false, cond}
 use mathlib.Core.List.{List, [], _∷_, _++_}
 use Prim.Native.Nat.{ℕ, _-_, _≤_}
 use native.Mathlib.Omega.{arith}
 use lib.Dec.{leb}
-use lib.IntN.{ℤ}
 use lib.ListN.{length, take}
 use borrow.Author.Tests.{le-leb}
-use Rattle.model.specs.Request.{Lent, lent}
+use Rattle.model.specs.Request.{Lent}
 use Rattle.model.specs.RequestLine.{Reading, read, noForm, readLine}
 use Rattle.model.specs.AnswerLine.{leftAfter}
 use Rattle.model.specs.Tally.{afterAll}
@@ -36,27 +35,11 @@ left-requests s (l ∷ ls) = left-requests (leftAfter s (readLine l)) ls ∙ go 
     go noForm = refl
 
 -- ── a line ──
--- lines leave the names as they are: all that is lent after them, from its parts
-left-names : (s : Lent) (ls : List (List ℕ)) → leftBy s ls .names ≡ s .names
-unfolding leftBy leftAfter
-left-names s [] = refl
-left-names s (l ∷ ls) = left-names (leftAfter s (readLine l)) ls ∙ go (readLine l)
-  where
-    go : (x : Reading) → leftAfter s x .names ≡ s .names
-    go (read r) = refl
-    go noForm = refl
-
-left-parts : (b b' : List ℤ) (names : List ℕ) (ls : List (List ℕ)) → b' ≡ leftBy (lent b names) ls .nums → lent b' names ≡ leftBy (lent b names) ls
-left-parts b b' names ls e =
-    ap (λ (k : List ℤ). lent k names) e ∙ ap (λ (k : List ℕ). lent (leftBy (lent b names) ls .nums) k) (sym (left-names (lent b names) ls))
-
-pub left-line : (b b' : List ℤ) (names line old new : List ℕ) (len n : ℕ) → length old ≡ 2048 → Stepped (lent b names) (take (len - 0) line) old new n (lent b' names)
-    → lent b' names ≡ leftAfter (lent b names) (readLine (take len line))
-unfolding leftBy
-left-line b b' names line old new len n h w =
+pub left-line : (s left : Lent) (line old new : List ℕ) (len n : ℕ) → length old ≡ 2048 → Stepped s (take (len - 0) line) old new n left → left ≡ leftAfter s (readLine (take len line))
+left-line s left line old new len n h w =
     let e : len - 0 ≡ len = omega arith in
     let r : leb 2048 (length old) ≡ true = le-leb 2048 (length old) (omega arith) in
-    left-parts b b' names (take len line ∷ []) (rw (r, e) at (w .nums))
+    rw (r, e) at (w .leaves)
 
 -- a block up to a place between two cuts: the lines that it ends there are answered
 pub record FedUpTo (s₀ : Lent) (p block : List ℕ) (s : Lent) (line : List ℕ) (n at : ℕ) : Type 0 where
@@ -91,12 +74,12 @@ module _ (s₀ : Lent) (p block : List ℕ) (s : Lent) (line line' : List ℕ) (
   pub block-fed : ended ≡ false → FedIn s₀ p block line' n' at' true s
   unfolding leftBy
   block-fed e =
-      record { short = c .short; place = c .place; whole = λ _. c .whole e; rest = sym (rw e at cut-rest); nums = ap (λ (k : Lent). k .nums) (sym (rw e at cut-left)) }
+      record { short = c .short; place = c .place; whole = λ _. c .whole e; rest = sym (rw e at cut-rest); leaves = sym (rw e at cut-left) }
 
 -- the output is closed
 pub closed-fed : (s₀ : Lent) (p block : List ℕ) (s : Lent) (line : List ℕ) (n at : ℕ) → FedUpTo s₀ p block s line n at → FedIn s₀ p block line n at false s
 closed-fed s₀ p block s line n at u =
-    record { short = u .short; place = u .place; whole = λ e. not-so (sym e); rest = sym (u .rest); nums = ap (λ (k : Lent). k .nums) (sym (u .left)) }
+    record { short = u .short; place = u .place; whole = λ e. not-so (sym e); rest = sym (u .rest); leaves = sym (u .left) }
 
 -- ── all input ──
 -- the input so far: the lines that it ends are answered, and the rest is the line so far
@@ -112,22 +95,21 @@ unfolding linesIn lineAfter leftBy
 none-served s line h = record { room = h; short = omega arith; input = []; rest = refl; left = refl }
 
 -- a block more, or as much of it as was used
-pub block-served : (s₀ : Lent) (b b' : List ℤ) (names line line' block : List ℕ) (len len' used : ℕ) (going : Bool)
-    → ServedUpTo s₀ (lent b names) line len → FedIn (lent b names) (take len line) block line' len' used going (lent b' names) → length line' ≡ 1024
-    → ServedUpTo s₀ (lent b' names) line' len'
-block-served s₀ b b' names line line' block len len' used going u f room =
+pub block-served : (s₀ s left : Lent) (line line' block : List ℕ) (len len' used : ℕ) (going : Bool)
+    → ServedUpTo s₀ s line len → FedIn s (take len line) block line' len' used going left → length line' ≡ 1024 → ServedUpTo s₀ left line' len'
+block-served s₀ s left line line' block len len' used going u f room =
     let more = take used block in
     record {
       room = room;
       short = f .short;
       input = u .input ++ more;
       rest = rw (line-append (u .input) more [], u .rest) (sym (f .rest));
-      left = rw (lines-append (u .input) more [], left-append s₀ (linesIn [] (u .input)) (linesIn (lineAfter [] (u .input)) more), u .left, u .rest) (sym (left-parts b b' names (linesIn (take len line) more) (f .nums)));
+      left = rw (lines-append (u .input) more [], left-append s₀ (linesIn [] (u .input)) (linesIn (lineAfter [] (u .input)) more), u .left, u .rest) (sym (f .leaves));
     }
 
 module _ (s₀ s : Lent) (line : List ℕ) (len : ℕ) (u : ServedUpTo s₀ s line len) where
   pub input-served : Served s₀ s
-  input-served = record { input = u .input; nums = ap (λ (k : Lent). k .nums) (sym (u .left) ∙ left-requests s₀ (linesIn [] (u .input))) }
+  input-served = record { input = u .input; leaves = sym (u .left) ∙ left-requests s₀ (linesIn [] (u .input)) }
 
   -- a last line without its end has no form: it leaves all as it is
   pub last-served : (left : Lent) → left ≡ leftAfter s (readLine (take len line)) → Served s₀ left

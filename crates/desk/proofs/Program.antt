@@ -1,4 +1,5 @@
--- The program's claim: whatever bytes come in, its book agrees with its history, and no line is answered 2, 3 or 9.
+-- The program's claim: whatever bytes come in, its book agrees with its history, no line is answered 2, 3, 9 or 13, and its last orders are those of
+-- its book.
 -- Assumes nothing.
 use mathlib.Core.Path.{_≡_, refl, sym, subst}
 use mathlib.Core.Bool.{Bool, true, false, cond}
@@ -21,9 +22,12 @@ use Rattle.model.specs.RequestLine.{letter, Reading, read, noForm, readLine}
 use Rattle.model.specs.Text.{textOf}
 use Rattle.model.specs.AnswerLine.{printed, told, answerLine, noFormLine, printedFor}
 use Rattle.model.specs.Tally.{start, tally, openedOf, doneAll, afterAll}
-use Rattle.model.specs.Claim.{Claim, Never}
+use Rattle.model.specs.Numbers.{nat, cell}
+use Rattle.model.specs.LastOrder.{lastAt}
+use Rattle.model.specs.Claim.{R, Claim, Never, lastOrder, Started, NeverBy}
 use Rattle.model.proofs.Demand.{demand}
-use Rattle.model.proofs.Listing.{programBook, programNames, accepted}
+use Rattle.model.proofs.LastDemand.{last-orders, last-serves}
+use Rattle.model.proofs.Listing.{programBook, programNames, programLast, accepted}
 use Rattle.desk.specs.Step.{None239, Sound}
 use Rattle.desk.specs.Input.{leftBy, requestsIn, heldIn, Served}
 use Rattle.desk.proofs.Blocks.{left-requests}
@@ -84,11 +88,11 @@ module _ (s : Lent) (opened : openingFault (s .nums) (s .names) .number ≡ 0) w
 
   -- what input leaves, by the requests that it holds
   pub served-claim : (left : Lent) (v : Served s left) → Claimed s (heldIn (v .input)) (left .nums)
-  served-claim left v = subst (Claimed s (heldIn (v .input))) (sym (v .nums)) (demand s opened (heldIn (v .input)))
+  served-claim left v = subst (λ (k : Lent). Claimed s (heldIn (v .input)) (k .nums)) (sym (v .leaves)) (demand s opened (heldIn (v .input)))
 
 -- ── the program's book ──
 abbrev pub program : Lent
-program = lent programBook programNames
+program = lent programBook programNames programLast
 
 -- whatever bytes come in
 pub program-claim : (input : List ℕ) → Claimed program (heldIn input) (afterAll program (heldIn input) .nums)
@@ -101,3 +105,19 @@ program-sound = line-sound program accepted
 -- whatever `serve` leaves of it
 pub program-served : (left : Lent) (v : Served program left) → Claimed program (heldIn (v .input)) (left .nums)
 program-served = served-claim program accepted
+
+-- ── R-1: the program lends last orders all 0 ──
+program-started : Started program
+unfolding dims cell nat
+program-started = record { accepted = accepted; zeros = refl }
+
+-- whatever `serve` leaves: each number is the one that the scan of the book finds
+pub program-last : (left : Lent) → Served program left → (w k c : ℕ) → R (dims programBook .warehouses) w → R 10 k → R (dims programBook .customers) c
+    → lastAt (dims programBook) (left .last) w k c ≡ pos (lastOrder (dims programBook) (left .nums) w k c)
+program-last left v w k c r s u =
+    subst (λ (x : Lent). lastAt (dims programBook) (x .last) w k c ≡ pos (lastOrder (dims programBook) (x .nums) w k c)) (sym (v .leaves))
+    (last-orders program program-started (heldIn (v .input)) .1 w k c r s u)
+
+-- whatever bytes come in: no request is refused by 13
+pub program-serves : (input : List ℕ) → NeverBy 13 (doneAll program (heldIn input))
+program-serves input = last-serves program program-started (heldIn input)

@@ -2,6 +2,7 @@
 -- Assumes nothing.
 use mathlib.Core.Path.{_≡_, refl, sym, ap, _∙_, subst}
 use mathlib.Core.Bool.{Bool, true, false, cond}
+use mathlib.Core.Logic.{_≢_}
 use mathlib.Core.List.{List, [], _∷_}
 use Prim.Native.Nat.{ℕ, zero, suc, _+_, _-_, _≤_, _<_}
 use native.Mathlib.Nat.{le-trans, mul-le-mul-right}
@@ -11,6 +12,7 @@ use lib.IntN.{ℤ, pos}
 use lib.ListN.{length, take, drop, replicate, length-append}
 use lib.Seq.{take-at}
 use borrow.Author.Tests.{eqb-true, le-leb, lt-leb}
+use Rattle.model.specs.declared.Dims.{Dims}
 use Rattle.model.specs.declared.Form.{Form}
 use Rattle.model.specs.declared.LastName.{LastName}
 use Rattle.model.specs.declared.Line.{Line}
@@ -26,12 +28,12 @@ use Rattle.model.specs.declared.RequestOutcome.the-variants as RequestCase
 use Rattle.model.specs.Answer.{Answer, committed, refused, requestSays}
 use Rattle.model.specs.Names.{Who, byNumber, byName, whoOf}
 use Rattle.model.specs.Head.{dims}
-use Rattle.model.specs.OrderStatus.{emptyPart, partOf, statusFault, statusOrder, linesPart, statusPart, statusCustomer}
+use Rattle.model.specs.OrderStatus.{emptyPart, partOf, statusFault, statusOrder, linesPart, statusPart}
 use Rattle.model.specs.Request.{Request, newOrder, payment, delivery, orderStatus, stockLevel, Lent, requestOf, linesOf, nameIn, shownPart, shownOf, numsAfter}
 use Rattle.model.specs.RequestLine.{letter, Reading, read, noForm, padTo, itemsOf, suppliesOf, quantitiesOf, selection, nameOfWho, storedLines, storedName, stored, readLine}
 use Rattle.model.specs.AnswerLine.{printed, told, answerLine, noFormLine, printedFor, leftAfter}
-use Rattle.model.proofs.StatusFacts.{StatusUsed, status-ready}
-use Rattle.model.proofs.RuleLaws.{last-in}
+use Rattle.model.proofs.RowFacts.{OrderIn}
+use Rattle.model.proofs.StatusFacts.{status-ready}
 use Rattle.engine.specs.Carried.{Carried, lettered}
 use Rattle.answers.specs.Writing.{Answered, sample, outcomeLine, hasRoom, withLine, lengthIf}
 use Rattle.answers.proofs.Putting.{room}
@@ -98,20 +100,17 @@ take-most zero zs = omega arith
 take-most (suc n) [] = omega arith
 take-most (suc n) (z ∷ zs) = omega (arith, take-most n zs)
 
-lines-most : (b : List ℤ) (names : List ℕ) (q : OrderStatus) (who : Who) (o : ℕ) → statusOrder (dims b) b names q who ≡ o → StatusUsed (dims b) b names q who → linesPart (dims b) b (q .warehouse) (q .district) o .count ≤ 75
-unfolding linesPart statusOrder
-lines-most b names q who zero e u = omega arith
-lines-most b names q who (suc o) e u =
-    let h = last-in (dims b) b (q .warehouse) (q .district) (statusCustomer (dims b) names q who) in
-    let i = u .orders (suc o) (record { lo = omega arith; hi = rw e at h }) in
-    mul-le-mul-right 5 (i .count-high)
+lines-most : (d : Dims) (b : List ℤ) (w k o : ℕ) → (o ≢ 0 → OrderIn d b w k o) → linesPart d b w k o .count ≤ 75
+unfolding linesPart
+lines-most d b w k zero i = omega arith
+lines-most d b w k (suc o) i = mul-le-mul-right 5 (i (λ e. omega arith) .count-high)
 
-status-most : (b : List ℤ) (names : List ℕ) (q : OrderStatus) (who : Who) → statusPart b names q who .count ≤ 75
+status-most : (b : List ℤ) (names : List ℕ) (last : List ℤ) (q : OrderStatus) (who : Who) → statusPart b names last q who .count ≤ 75
 unfolding statusPart
-status-most b names q who = go (eqb (statusFault b names q who .number) 0) refl
+status-most b names last q who = go (eqb (statusFault b names last q who .number) 0) refl
   where
-    go : (t : Bool) → eqb (statusFault b names q who .number) 0 ≡ t → cond t (linesPart (dims b) b (q .warehouse) (q .district) (statusOrder (dims b) b names q who)) emptyPart .count ≤ 75
-    go true e = lines-most b names q who (statusOrder (dims b) b names q who) refl (status-ready b names q who (eqb-true _ _ e) .used)
+    go : (t : Bool) → eqb (statusFault b names last q who .number) 0 ≡ t → cond t (linesPart (dims b) b (q .warehouse) (q .district) (statusOrder (dims b) names last q who)) emptyPart .count ≤ 75
+    go true e = lines-most (dims b) b (q .warehouse) (q .district) (statusOrder (dims b) names last q who) (status-ready b names last q who (eqb-true _ _ e) .used .order)
     go false e = omega arith
 
 shown-most : (s : Lent) (q : Request) → length (shownOf s q) ≤ 75
@@ -119,7 +118,7 @@ unfolding shownPart
 shown-most s (newOrder q lines) = omega arith
 shown-most s (payment q who) = omega arith
 shown-most s (delivery q) = omega arith
-shown-most s (orderStatus q who) = le-trans (take-most _ _) (status-most (s .nums) (s .names) q who)
+shown-most s (orderStatus q who) = le-trans (take-most _ _) (status-most (s .nums) (s .names) (s .last) q who)
 shown-most s (stockLevel q) = omega arith
 
 -- ── a reading gives its request back ──
@@ -222,13 +221,13 @@ lent-part p b = let e : p .from + p .count - p .from ≡ p .count = omega arith 
 
 -- ── a line answered ──
 module _ (s : Lent) (line out m : List ℕ) (n : ℕ) (left : Lent) (h : 2048 ≤ length out) where
-  stepped : (t : Bool) (text : List ℕ) → t ≡ true → text ≡ printedFor s (readLine line) → left .nums ≡ leftAfter s (readLine line) .nums → Answered t text out m n → Stepped s line out m n left
+  stepped : (t : Bool) (text : List ℕ) → t ≡ true → text ≡ printedFor s (readLine line) → left ≡ leftAfter s (readLine line) → Answered t text out m n → Stepped s line out m n left
   stepped t text e f g w =
       let o : leb 2048 (length out) ≡ true = le-leb 2048 (length out) h in
-      record { long = rw (o, ← f) (rw e at (w .long)); bytes = rw (o, ← f) (rw e at (w .bytes)); nums = rw o g }
+      record { long = rw (o, ← f) (rw e at (w .long)); bytes = rw (o, ← f) (rw e at (w .bytes)); leaves = rw o g }
 
   -- where it has no form
-  pub stepped-none : (a : ReadAnswer) (f : Refusal) → a ≡ stored (readLine line) → a .outcome ≡ ReadCase.Refused f → left .nums ≡ s .nums → Answered (hasRoom out []) noFormLine out m n → Stepped s line out m n left
+  pub stepped-none : (a : ReadAnswer) (f : Refusal) → a ≡ stored (readLine line) → a .outcome ≡ ReadCase.Refused f → left ≡ s → Answered (hasRoom out []) noFormLine out m n → Stepped s line out m n left
   unfolding printedFor leftAfter
   stepped-none a f e o k w =
       let r : readLine line ≡ noForm = without-form (readLine line) f (ap (λ (x : ReadAnswer). x .outcome) (sym e) ∙ o) in
@@ -256,7 +255,7 @@ module _ (s : Lent) (line out m : List ℕ) (n : ℕ) (left : Lent) (h : 2048 �
 pub stepped-nothing : (s : Lent) (line out : List ℕ) → length out < 2048 → Stepped s line out out 0 s
 stepped-nothing s line out h =
     let o : leb 2048 (length out) ≡ false = lt-leb 2048 (length out) h in
-    record { long = rw o; bytes = rw o; nums = rw o }
+    record { long = rw o; bytes = rw o; leaves = rw o }
 
 -- the arrays of a reading hold what is in use
 pub read-held : (line : List ℕ) (a : ReadAnswer) → a ≡ stored (readLine line) → Held (a .lines) (a .name)

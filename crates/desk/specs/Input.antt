@@ -35,9 +35,9 @@ pub record FedIn (s : Lent) (p block line : List ℕ) (len used : ℕ) (going : 
   pub place : used ≤ length block
   pub whole : going ≡ true → used ≡ length block
   pub rest : take len line ≡ lineAfter p (take used block)
-  pub nums : left .nums ≡ leftBy s (linesIn p (take used block)) .nums
+  pub leaves : left ≡ leftBy s (linesIn p (take used block))
 
 -- what is lent after is what the requests of some input leave of what is lent before; that it is standard input no contract can say
 pub record Served (s left : Lent) : Type 0 where
   pub input : List ℕ
-  pub nums : left .nums ≡ afterAll s (heldIn input) .nums
+  pub leaves : left ≡ afterAll s (heldIn input)

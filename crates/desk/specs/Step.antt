@@ -24,7 +24,7 @@ roomy out = leb 2048 (length out)
 pub record Stepped (s : Lent) (line old new : List ℕ) (n : ℕ) (left : Lent) : Type 0 where
   pub long : n ≡ lengthIf (roomy old) (printedFor s (readLine line))
   pub bytes : new ≡ withLine (roomy old) (printedFor s (readLine line)) old
-  pub nums : left .nums ≡ cond (roomy old) (leftAfter s (readLine line) .nums) (s .nums)
+  pub leaves : left ≡ cond (roomy old) (leftAfter s (readLine line)) s
 
 abbrev pub isCommitted : Answer → Bool
 isCommitted (committed figures) = true

@@ -1,13 +1,15 @@
 -- A request carried out as the model says: its answer, what stands beside it, and what it leaves of all that is lent.
 -- Assumes nothing.
 use mathlib.Core.Path.{_≡_}
+use mathlib.Core.List.{List}
 use Prim.Native.Nat.{ℕ, _+_, _≤_}
+use lib.IntN.{ℤ}
 use lib.ListN.{length}
 use Rattle.model.specs.declared.RequestAnswer.{RequestAnswer}
 use Rattle.model.specs.declared.RequestOutcome.{RequestOutcome}
 use Rattle.model.specs.declared.RequestOutcome.the-variants as RequestCase
 use Rattle.model.specs.Answer.{requestSays}
-use Rattle.model.specs.Request.{Request, Lent, answerOf, ordersOf, shownPart, after}
+use Rattle.model.specs.Request.{Request, Lent, lent, answerOf, ordersOf, shownPart, after}
 use Rattle.model.specs.RequestLine.{letter}
 
 -- the letter of the requests that an outcome answers
@@ -25,4 +27,8 @@ pub record Carried (s : Lent) (q : Request) (r : RequestAnswer) (left : Lent) : 
   pub orders : r .orders ≡ ordersOf s q
   pub within : r .part .from + r .part .count ≤ length (left .nums)
   pub shows : r .part ≡ shownPart s q
-  pub leaves : left .nums ≡ after s q .nums
+  pub leaves : left ≡ after s q
+
+-- a request of a kind that takes numbers and names alone, whatever is lent beside them
+abbrev pub CarriedBeside : List ℤ → List ℕ → Request → RequestAnswer → List ℤ → Type 0
+CarriedBeside b names q r left = (last : List ℤ) → Carried (lent b names last) q r (lent left names last)

@@ -1,7 +1,7 @@
 // One request of any kind, carried out on the book.
 ghost use Rattle.model.specs.Names.{whoOf};
 ghost use Rattle.model.specs.Request.{lent, requestOf, linesOf, newOrder, payment, delivery, orderStatus, stockLevel};
-ghost use Rattle.engine.specs.Carried.{Carried};
+ghost use Rattle.engine.specs.Carried.{Carried, CarriedBeside};
 use model::Delivery;
 use model::Form;
 use model::NewOrder;
@@ -17,16 +17,17 @@ use model::StockLevel;
 fn new_order(
     b: &mut [i64],
     names: &[u8],
+    last: &mut [i64],
     q: NewOrder,
     items: &[u64],
     supplies: &[u64],
     quantities: &[u64],
 ) -> RequestAnswer
-    ensures { λ r. ⌜ Carried (lent (now (b .entry)) (now (names .entry)))
+    ensures { λ r. ⌜ Carried (lent (now (b .entry)) (now (names .entry)) (now (last .entry)))
         (newOrder q (linesOf (now (items .entry)) (now (supplies .entry)) (now (quantities .entry))))
-        r (lent (now (b .exit)) (now (names .entry))) ⌝ }
+        r (lent (now (b .exit)) (now (names .entry)) (now (last .exit))) ⌝ }
 {
-    let a = new_order::new_order_split(b, names, q, items, supplies, quantities);
+    let a = new_order::new_order_split(b, names, last, q, items, supplies, quantities);
     let o = a.outcome;
     let outcome = RequestOutcome::NewOrder(o);
     let orders = [0u64; 10];
@@ -38,11 +39,9 @@ fn new_order(
     }
 }
 
-// Payment.
+// Payment, whatever the last orders are.
 fn payment(b: &mut [i64], names: &[u8], q: Payment, who: Selection, name: &[u8]) -> RequestAnswer
-    ensures { λ r. ⌜ Carried (lent (now (b .entry)) (now (names .entry)))
-        (payment q (whoOf who (now (name .entry))))
-        r (lent (now (b .exit)) (now (names .entry))) ⌝ }
+    ensures { λ r. ⌜ CarriedBeside (now (b .entry)) (now (names .entry)) (payment q (whoOf who (now (name .entry)))) r (now (b .exit)) ⌝ }
 {
     let a = payment::payment(b, names, q, who, name);
     let o = a.outcome;
@@ -56,11 +55,9 @@ fn payment(b: &mut [i64], names: &[u8], q: Payment, who: Selection, name: &[u8])
     }
 }
 
-// Delivery.
+// Delivery, whatever the last orders are.
 fn delivery(b: &mut [i64], names: &[u8], q: Delivery) -> RequestAnswer
-    ensures { λ r. ⌜ Carried (lent (now (b .entry)) (now (names .entry)))
-        (delivery q)
-        r (lent (now (b .exit)) (now (names .entry))) ⌝ }
+    ensures { λ r. ⌜ CarriedBeside (now (b .entry)) (now (names .entry)) (delivery q) r (now (b .exit)) ⌝ }
 {
     let a = delivery::delivery(b, names, q);
     let o = a.outcome;
@@ -78,15 +75,16 @@ fn delivery(b: &mut [i64], names: &[u8], q: Delivery) -> RequestAnswer
 fn order_status(
     b: &[i64],
     names: &[u8],
+    last: &[i64],
     q: OrderStatus,
     who: Selection,
     name: &[u8],
 ) -> RequestAnswer
-    ensures { λ r. ⌜ Carried (lent (now (b .entry)) (now (names .entry)))
+    ensures { λ r. ⌜ Carried (lent (now (b .entry)) (now (names .entry)) (now (last .entry)))
         (orderStatus q (whoOf who (now (name .entry))))
-        r (lent (now (b .entry)) (now (names .entry))) ⌝ }
+        r (lent (now (b .entry)) (now (names .entry)) (now (last .entry))) ⌝ }
 {
-    let a = order_status::status_shown(b, names, q, who, name);
+    let a = order_status::status_shown(b, names, last, q, who, name);
     let o = a.outcome;
     let outcome = RequestOutcome::OrderStatus(o);
     let orders = [0u64; 10];
@@ -98,11 +96,9 @@ fn order_status(
     }
 }
 
-// Stock-Level.
+// Stock-Level, whatever the last orders are.
 fn stock_level(b: &[i64], names: &[u8], q: StockLevel) -> RequestAnswer
-    ensures { λ r. ⌜ Carried (lent (now (b .entry)) (now (names .entry)))
-        (stockLevel q)
-        r (lent (now (b .entry)) (now (names .entry))) ⌝ }
+    ensures { λ r. ⌜ CarriedBeside (now (b .entry)) (now (names .entry)) (stockLevel q) r (now (b .entry)) ⌝ }
 {
     let a = stock_level::stock_level(b, names, q);
     let o = a.outcome;
@@ -120,21 +116,22 @@ fn stock_level(b: &[i64], names: &[u8], q: StockLevel) -> RequestAnswer
 pub fn carry_out(
     b: &mut [i64],
     names: &[u8],
+    last: &mut [i64],
     form: Form,
     items: &[u64],
     supplies: &[u64],
     quantities: &[u64],
     name: &[u8],
 ) -> RequestAnswer
-    ensures { λ r. ⌜ Carried (lent (now (b .entry)) (now (names .entry)))
+    ensures { λ r. ⌜ Carried (lent (now (b .entry)) (now (names .entry)) (now (last .entry)))
         (requestOf form (linesOf (now (items .entry)) (now (supplies .entry)) (now (quantities .entry))) (now (name .entry)))
-        r (lent (now (b .exit)) (now (names .entry))) ⌝ }
+        r (lent (now (b .exit)) (now (names .entry)) (now (last .exit))) ⌝ }
 {
     match form {
-        Form::NewOrder(q) => new_order(b, names, q, items, supplies, quantities),
+        Form::NewOrder(q) => new_order(b, names, last, q, items, supplies, quantities),
         Form::Payment(q, who) => payment(b, names, q, who, name),
         Form::Delivery(q) => delivery(b, names, q),
-        Form::OrderStatus(q, who) => order_status(b, names, q, who, name),
+        Form::OrderStatus(q, who) => order_status(b, names, last, q, who, name),
         Form::StockLevel(q) => stock_level(b, names, q),
     }
 }

@@ -5,7 +5,7 @@ use Prim.Native.Nat.{ℕ, suc, _+_, _*_, _-_, _≤_}
 use native.Mathlib.Nat.{mul-le-mul, mul-le-mul-right, suc-mul}
 use native.Mathlib.Omega.{arith}
 use Rattle.model.specs.declared.Dims.{Dims}
-use Rattle.model.specs.Layout.{numbers, nameBytes, shapes, place, inside}
+use Rattle.model.specs.Layout.{numbers, nameBytes, shapes, place, inside, perCustomer, ofCustomer}
 use Rattle.model.specs.Rows.{warehouseRow, districtRow, customerRow, price, stockRow, slot, orderRow, historyRow}
 use Rattle.model.specs.Claim.{R}
 use Rattle.model.proofs.Fields.{Dimensioned, v1, v2, v3, v4, v5, v6, v7, slot-in, row-end}
@@ -94,3 +94,10 @@ module _ (d : Dims) where
       → (place (shapes d) (orderRow d w k o) + 81 * i ≡ place (shapes d) (orderRow d w k (o + i))) × (place (shapes d) (orderRow d w k (o + i)) + 81 ≤ numbers d)
   unfolding place inside slot
   order-run w k o i r s l h = (omega arith, order-is w k (o + i) r s (record { lo = omega arith; hi = omega arith }) .1)
+
+  -- a slice with one number per customer
+  pub last-is : (w k c : ℕ) → R (d .warehouses) w → R 10 k → R (d .customers) c
+      → ((10 * (w - 1) + (k - 1)) * d .customers + (c - 1) ≡ place (perCustomer d) (ofCustomer w k c))
+      × (place (perCustomer d) (ofCustomer w k c) + 1 ≤ 10 * d .warehouses * d .customers)
+  unfolding place inside
+  last-is w k c r s t = (omega arith, omega (arith, row-end (perCustomer d) 0 w k c 0 (omega arith) refl))

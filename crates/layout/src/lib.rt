@@ -2,7 +2,7 @@ ghost use mathlib.Core.Path.{_≡_};
 ghost use Prim.Native.Nat.{_+_, _*_, _≤_, _<_, _^_};
 ghost use lib.ListN.{length};
 ghost use Rattle.model.specs.Tests.{every};
-ghost use Rattle.model.specs.Layout.{numbers, nameBytes, shapes, place};
+ghost use Rattle.model.specs.Layout.{numbers, nameBytes, shapes, place, perCustomer, ofCustomer};
 ghost use Rattle.model.specs.Head.{dims, dimsTests, sizeTests};
 ghost use Rattle.model.specs.Rows.{warehouseRow, districtRow, customerRow, price, stockRow, slot, orderRow, historyRow};
 ghost use Rattle.model.specs.Names.{namePlace};
@@ -56,7 +56,7 @@ fn dims_of(b: &[i64]) -> Dims
 }
 
 // How many customers, stocks and orders the book has rows for.
-fn all_customers(d: Dims) -> u64
+pub fn all_customers(d: Dims) -> u64
     requires { ⌜ Dimensioned d ⌝ }
     ensures { λ r. ⌜ (r ≡ allCustomers d) × (r ≤ 600000) ⌝ }
 {
@@ -275,4 +275,13 @@ pub fn name_at(d: Dims, w: u64, k: u64, c: u64) -> u64
     ensures { λ r. ⌜ (r ≡ namePlace d w k c) × (r + 32 ≤ nameBytes d) ⌝ }
 {
     name_base(d, w, k) + 32 * (c - 1)
+}
+
+// Where a customer's number stands in a slice that has one number per customer.
+pub fn last_at(d: Dims, w: u64, k: u64, c: u64) -> u64
+    requires { ⌜ Dimensioned d × (R (d .warehouses) w × (R 10 k × R (d .customers) c)) ⌝ }
+    ensures { λ r. ⌜ (r ≡ place (perCustomer d) (ofCustomer w k c)) × (r + 1 ≤ 10 * d .warehouses * d .customers) ⌝ }
+{
+    let block = (10 * (w - 1) + (k - 1)) * d.customers;
+    block + (c - 1)
 }

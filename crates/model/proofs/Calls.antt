@@ -23,7 +23,7 @@ use Rattle.model.specs.Names.{Who, customerOf, foundNumber}
 use Rattle.model.specs.NewOrder.{newOrderFault, priceOf, takeLines, joinOps, newOrderCommit, newOrderBook}
 use Rattle.model.specs.Payment.{paymentFault, payer, payOps, paymentCommit, paymentBook}
 use Rattle.model.specs.Delivery.{deliveryFault, deliveryCommit, deliveryBook}
-use Rattle.model.specs.Request.{Request, newOrder, payment, delivery, orderStatus, stockLevel, lent, faultOf, numsAfter}
+use Rattle.model.specs.Request.{Request, newOrder, payment, delivery, orderStatus, stockLevel, lent, faultOf, numsAfter, lastAfter}
 use Rattle.model.specs.Tally.{Opened, Tally, Order, N, worth, tallyPayment, tallyLines, tallyOrder, tallyDistricts, count, tally, afterAll, doneAll}
 use Rattle.model.specs.Claim.{R}
 use Rattle.model.proofs.NumberLaws.{nat-pos}
@@ -130,18 +130,18 @@ module _ (D : Dims) (b₀ : List ℤ) (names : List ℕ) (t : Tally) (b : List �
           let r : PayReady D b names q who = subst (λ (d : Dims). PayReady d b names q who) (g .agrees .head .head) (pay-ready b names q who (eqb-true _ _ e)) in
           subst (λ (d : Dims). Good D b₀ (tallyPayment q (payer D names q who) t) (paymentCommit d b q (payer d names q who))) (sym (g .agrees .head .head)) (pay-step q who r)
 
-  new-any : (q : NewOrder) (ls : List Line)
-      → Good D b₀ (cond (eqb (newOrderFault b names q ls .number) 0)
-      (tallyOrder (q .warehouse) (q .district) (record { customer = q .customer; sum = worth (openedAt D b₀ names .prices) ls }) (tallyLines ls t)) t) (newOrderBook b names q ls)
+  new-any : (last : List ℤ) (q : NewOrder) (ls : List Line)
+      → Good D b₀ (cond (eqb (newOrderFault b names last q ls .number) 0)
+      (tallyOrder (q .warehouse) (q .district) (record { customer = q .customer; sum = worth (openedAt D b₀ names .prices) ls }) (tallyLines ls t)) t) (newOrderBook b names last q ls)
   unfolding newOrderBook
-  new-any q ls = go (eqb (newOrderFault b names q ls .number) 0) refl
+  new-any last q ls = go (eqb (newOrderFault b names last q ls .number) 0) refl
     where
-      go : (x : Bool) → eqb (newOrderFault b names q ls .number) 0 ≡ x
+      go : (x : Bool) → eqb (newOrderFault b names last q ls .number) 0 ≡ x
           → Good D b₀ (cond x (tallyOrder (q .warehouse) (q .district) (record { customer = q .customer; sum = worth (openedAt D b₀ names .prices) ls }) (tallyLines ls t)) t)
           (cond x (newOrderCommit (dims b) b q ls) b)
       go false e = g
       go true e =
-          let r : NewReady D b (length names) q ls = subst (λ (d : Dims). NewReady d b (length names) q ls) (g .agrees .head .head) (new-ready b names q ls (eqb-true _ _ e)) in
+          let r : NewReady D b (length names) q ls = subst (λ (d : Dims). NewReady d b (length names) q ls) (g .agrees .head .head) (new-ready b names last q ls (eqb-true _ _ e)) in
           subst (λ (d : Dims). Good D b₀ (tallyOrder (q .warehouse) (q .district) (record { customer = q .customer; sum = worth (openedAt D b₀ names .prices) ls }) (tallyLines ls t)) (newOrderCommit d b q ls)) (sym (g .agrees .head .head))
           (new-step (length names) q ls r)
 
@@ -159,17 +159,17 @@ module _ (D : Dims) (b₀ : List ℤ) (names : List ℕ) (t : Tally) (b : List �
   idle true = g
   idle false = g
 
-  pub call-step : (r : Request) → Good D b₀ (cond (eqb (faultOf (lent b names) r .number) 0) (count (openedAt D b₀ names) r t) t) (numsAfter (lent b names) r)
+  pub call-step : (last : List ℤ) (r : Request) → Good D b₀ (cond (eqb (faultOf (lent b names last) r .number) 0) (count (openedAt D b₀ names) r t) t) (numsAfter (lent b names last) r)
   unfolding faultOf numsAfter count payer
-  call-step (newOrder q ls) = new-any q ls
-  call-step (payment q who) = pay-any q who
-  call-step (delivery q) = deliver-any q
-  call-step (orderStatus q who) = idle (eqb (faultOf (lent b names) (orderStatus q who) .number) 0)
-  call-step (stockLevel q) = idle (eqb (faultOf (lent b names) (stockLevel q) .number) 0)
+  call-step last (newOrder q ls) = new-any last q ls
+  call-step last (payment q who) = pay-any q who
+  call-step last (delivery q) = deliver-any q
+  call-step last (orderStatus q who) = idle (eqb (faultOf (lent b names last) (orderStatus q who) .number) 0)
+  call-step last (stockLevel q) = idle (eqb (faultOf (lent b names last) (stockLevel q) .number) 0)
 
 -- ── any list ──
-pub list-step : (D : Dims) (b₀ : List ℤ) (names : List ℕ) (rs : List Request) (t : Tally) (b : List ℤ) → Good D b₀ t b
-    → Good D b₀ (tally (openedAt D b₀ names) (doneAll (lent b names) rs) t) (afterAll (lent b names) rs .nums)
-list-step D b₀ names [] t b g = g
-list-step D b₀ names (r ∷ rs) t b g =
-    list-step D b₀ names rs (cond (eqb (faultOf (lent b names) r .number) 0) (count (openedAt D b₀ names) r t) t) (numsAfter (lent b names) r) (call-step D b₀ names t b g r)
+pub list-step : (D : Dims) (b₀ : List ℤ) (names : List ℕ) (rs : List Request) (t : Tally) (b last : List ℤ) → Good D b₀ t b
+    → Good D b₀ (tally (openedAt D b₀ names) (doneAll (lent b names last) rs) t) (afterAll (lent b names last) rs .nums)
+list-step D b₀ names [] t b last g = g
+list-step D b₀ names (r ∷ rs) t b last g =
+    list-step D b₀ names rs (cond (eqb (faultOf (lent b names last) r .number) 0) (count (openedAt D b₀ names) r t) t) (numsAfter (lent b names last) r) (lastAfter (lent b names last) r) (call-step D b₀ names t b g last r)

@@ -68,12 +68,12 @@ unfolding openedOf
 history-good s e rs =
     let b = s .nums in
     let fr = opened-fresh b (s .names) e in
-    list-step (dims b) b (s .names) rs start b (record { agrees = fresh-agrees (dims b) b (s .names) fr; sane = start-sane (dims b); booked = start-booked })
+    list-step (dims b) b (s .names) rs start b (s .last) (record { agrees = fresh-agrees (dims b) b (s .names) fr; sane = start-sane (dims b); booked = start-booked })
 
 pub demand : Demand
 demand s e rs =
     let b = s .nums in
     let fr = opened-fresh b (s .names) e in (
       agrees-claim (dims b) b (tally (openedOf b (s .names)) (doneAll s rs) start) (afterAll s rs .nums) (history-good s e rs .agrees),
-      never-list (dims b) b (s .names) fr rs start b (record { agrees = fresh-agrees (dims b) b (s .names) fr; sane = start-sane (dims b); booked = start-booked }),
+      never-list (dims b) b (s .names) fr rs start b (s .last) (record { agrees = fresh-agrees (dims b) b (s .names) fr; sane = start-sane (dims b); booked = start-booked }),
     )

@@ -21,6 +21,7 @@ pub mod Ordering
 pub mod NameLaws
 pub mod NameFacts
 pub mod PaymentFacts
+pub mod LastFacts
 pub mod NewOrderFacts
 pub mod DeliveryFacts
 pub mod StatusFacts
@@ -38,9 +39,12 @@ pub mod Booked
 pub mod Fresh
 pub mod Calls
 pub mod Never
+pub mod LastLaws
 pub mod Demand
+pub mod LastDemand
 pub mod Masters
 pub mod SlotLaws
 pub mod Consistency
 pub mod Listing
 pub mod Readings
+pub mod LastCases

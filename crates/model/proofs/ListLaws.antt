@@ -77,20 +77,10 @@ module _ (f : ℕ → Bool) where
   unfolding lowest
   lowest-none k = refl
 
-  -- ── the last of 1 .. n ──
-  pub largest-none : largest f 0 ≡ 0
-  unfolding largest
-  largest-none = refl
-
   pub largest-here : (n : ℕ) → f n ≡ true → 0 < n → largest f n ≡ n
   unfolding largest
   largest-here zero e h = absurd (omega arith)
   largest-here (suc n) e h = rw e
-
-  pub largest-past : (n : ℕ) → f n ≡ false → 0 < n → largest f n ≡ largest f (n - 1)
-  unfolding largest
-  largest-past zero e h = absurd (omega arith)
-  largest-past (suc n) e h = let q : suc n - 1 ≡ n = omega arith in rw (e, q)
 
 -- what a first number is: it passes, it is one of the n from k on, and none before it passes
 pub record Lowest (f : ℕ → Bool) (k n o : ℕ) : Type 0 where
@@ -133,25 +123,6 @@ largest-in f (suc n) = go (f (suc n)) (largest-in f n)
     go : (t : Bool) → largest f n ≤ n → cond t (suc n) (largest f n) ≤ suc n
     go true h = omega arith
     go false h = omega arith
-
-pub largest-passes : (f : ℕ → Bool) (n o : ℕ) → largest f n ≡ suc o → f (suc o) ≡ true
-unfolding largest
-largest-passes f zero o e = absurd (omega arith)
-largest-passes f (suc n) o e = go (f (suc n)) refl (λ q. largest-passes f n o q)
-  where
-    go : (t : Bool) → f (suc n) ≡ t → (largest f n ≡ suc o → f (suc o) ≡ true) → f (suc o) ≡ true
-    go true p rec = let s : suc n ≡ suc o = ap (λ (t : Bool). cond t (suc n) (largest f n)) (sym p) ∙ e in sym (ap f s) ∙ p
-    go false p rec = rec (ap (λ (t : Bool). cond t (suc n) (largest f n)) (sym p) ∙ e)
-
-pub largest-last : (f : ℕ → Bool) (n j : ℕ) → R n j → largest f n < j → f j ≡ false
-unfolding largest
-largest-last f zero j r h = absurd (omega arith)
-largest-last f (suc n) j r h = go (f (suc n)) refl h (decLt j (suc n)) (λ q s. largest-last f n j q s)
-  where
-    go : (t : Bool) → f (suc n) ≡ t → cond t (suc n) (largest f n) < j → Dec (j < suc n) → (R n j → largest f n < j → f j ≡ false) → f j ≡ false
-    go true p g d rec = absurd (omega arith)
-    go false p g (yes q) rec = rec (record { lo = r .lo; hi = omega arith }) g
-    go false p g (no q) rec = let s : j ≡ suc n = omega arith in ap f s ∙ p
 
 -- the same tests, the same first number
 pub lowest-same : (f g : ℕ → Bool) (k n : ℕ) → ((j : ℕ) → k ≤ j → j < k + n → f j ≡ g j) → lowest f k n ≡ lowest g k n

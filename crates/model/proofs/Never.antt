@@ -31,7 +31,7 @@ use Rattle.model.specs.Payment.{payAsked, payUsed, paymentFault}
 use Rattle.model.specs.Delivery.{deliveryAsked, deliverable, deliveryUsed, deliveryFault}
 use Rattle.model.specs.OrderStatus.{statusAsked, statusUsed, statusFault}
 use Rattle.model.specs.StockLevel.{levelAsked, levelUsed, stockLevelFault}
-use Rattle.model.specs.Request.{Request, newOrder, payment, delivery, orderStatus, stockLevel, lent, faultOf, numsAfter}
+use Rattle.model.specs.Request.{Request, newOrder, payment, delivery, orderStatus, stockLevel, lent, faultOf, numsAfter, lastAfter}
 use Rattle.model.specs.Tally.{Tally, N, M, charged, count, doneAll}
 use Rattle.model.specs.Claim.{R, Never}
 use Rattle.model.proofs.TestLaws.{every-each, each-every, and-left, and-right, all-to, PassAt, Need, not-answered, in-within, in-range}
@@ -52,7 +52,7 @@ abbrev pub avoids : ℕ → List Check → Bool
 avoids n [] = true
 avoids n (c ∷ cs) = not (eqb (c .number) n) && avoids n cs
 
-avoided : (n : ℕ) (cs : List Check) → avoids n cs ≡ true → PassAt n cs
+pub avoided : (n : ℕ) (cs : List Check) → avoids n cs ≡ true → PassAt n cs
 avoided n [] e = tt
 avoided n (c ∷ cs) e =
     let ne = not-true (eqb (c .number) n) (and-left (not (eqb (c .number) n)) (avoids n cs) e) in
@@ -272,9 +272,9 @@ module _ (D : Dims) (b₀ : List ℤ) (names : List ℕ) (fr : Fresh D b₀ name
     ),
   )
 
-  new-9 : (q : NewOrder) (ls : List Line) → PassAt 9 (chk (headOk b (length names)) 2 ∷ newAsked D q ls ++ newUsed D b q ls)
+  new-9 : (last : List ℤ) (q : NewOrder) (ls : List Line) → PassAt 9 (chk (headOk b (length names)) 2 ∷ newAsked D q ls ++ newUsed D b last q ls)
   unfolding newAsked newUsed
-  new-9 q ls = (
+  new-9 last q ls = (
     tt,
     λ _. (
       tt,
@@ -297,7 +297,7 @@ module _ (D : Dims) (b₀ : List ℤ) (names : List ℕ) (fr : Fresh D b₀ name
                         in-district D b (q .warehouse) (q .district) (district-row (q .warehouse) (q .district) w k),
                         λ _. (
                           in-customer D b (q .warehouse) (q .district) (q .customer) (customer-row (q .warehouse) (q .district) (q .customer) w k c),
-                          λ _. (lines-pass ls e8, λ _. (tt, λ _. (tt, λ _. tt))),
+                          λ _. (lines-pass ls e8, λ _. (tt, λ _. (tt, λ _. (tt, λ _. (tt, λ _. tt))))),
                         ),
                       ),
                     ),
@@ -314,9 +314,9 @@ module _ (D : Dims) (b₀ : List ℤ) (names : List ℕ) (fr : Fresh D b₀ name
   delivery-9 q =
       (tt, λ _. (tt, λ e4. (tt, λ _. (tt, λ _. (all-to (deliverable D b (q .warehouse)) 10 (λ k s. deliverable-pass (q .warehouse) k (in-range (q .warehouse) (D .warehouses) e4) s), λ _. tt)))))
 
-  status-9 : (q : OrderStatus) (who : Who) → PassAt 9 (chk (headOk b (length names)) 2 ∷ statusAsked D q who ++ statusUsed D b names q who)
+  status-9 : (last : List ℤ) (q : OrderStatus) (who : Who) → PassAt 9 (chk (headOk b (length names)) 2 ∷ statusAsked D q who ++ statusUsed D b names last q who)
   unfolding statusAsked statusUsed
-  status-9 q who = (
+  status-9 last q who = (
     tt,
     λ _. (
       tt,
@@ -330,7 +330,7 @@ module _ (D : Dims) (b₀ : List ℤ) (names : List ℕ) (fr : Fresh D b₀ name
                 in-district D b (q .warehouse) (q .district) (district-row (q .warehouse) (q .district) w k),
                 λ _. (
                   who-pass (q .warehouse) (q .district) who w k e6,
-                  λ _. (at-orders D b (q .warehouse) (q .district) (orders-in D b₀ t b g (q .warehouse) (q .district) w k), λ _. (tt, λ _. tt)),
+                  λ _. (tt, λ _. (tt, λ _. (tt, λ _. (tt, λ _. tt)))),
                 ),
               ),
         ),
@@ -376,16 +376,16 @@ module _ (D : Dims) (b₀ : List ℤ) (names : List ℕ) (fr : Fresh D b₀ name
   sized : (f : Dims → List Check) → Not239 (fault (chk (headOk b (length names)) 2 ∷ f D) .number) → Not239 (fault (chk (headOk b (length names)) 2 ∷ f (dims b)) .number)
   sized f h = subst (λ (d : Dims). Not239 (fault (chk (headOk b (length names)) 2 ∷ f d) .number)) (sym (g .agrees .head .head)) h
 
-  pub never-call : (r : Request) → (faultOf (lent b names) r .number ≢ 2) × ((faultOf (lent b names) r .number ≢ 3) × (faultOf (lent b names) r .number ≢ 9))
+  pub never-call : (last : List ℤ) (r : Request) → (faultOf (lent b names last) r .number ≢ 2) × ((faultOf (lent b names last) r .number ≢ 3) × (faultOf (lent b names last) r .number ≢ 9))
   unfolding faultOf newOrderFault paymentFault deliveryFault statusFault stockLevelFault newAsked newUsed payAsked payUsed deliveryAsked deliveryUsed statusAsked statusUsed levelAsked levelUsed
-  never-call (newOrder q ls) = sized (λ d. newAsked d q ls ++ newUsed d b q ls) (all-three (newAsked D q ls ++ newUsed D b q ls) refl refl (new-9 q ls))
-  never-call (payment q who) = sized (λ d. payAsked d q who ++ payUsed d b names q who) (all-three (payAsked D q who ++ payUsed D b names q who) refl refl (pay-9 q who))
-  never-call (delivery q) = sized (λ d. deliveryAsked d q ++ deliveryUsed d b q) (all-three (deliveryAsked D q ++ deliveryUsed D b q) refl refl (delivery-9 q))
-  never-call (orderStatus q who) = sized (λ d. statusAsked d q who ++ statusUsed d b names q who) (all-three (statusAsked D q who ++ statusUsed D b names q who) refl refl (status-9 q who))
-  never-call (stockLevel q) = sized (λ d. levelAsked d q ++ levelUsed d b q) (all-three (levelAsked D q ++ levelUsed D b q) refl refl (level-9 q))
+  never-call last (newOrder q ls) = sized (λ d. newAsked d q ls ++ newUsed d b last q ls) (all-three (newAsked D q ls ++ newUsed D b last q ls) refl refl (new-9 last q ls))
+  never-call last (payment q who) = sized (λ d. payAsked d q who ++ payUsed d b names q who) (all-three (payAsked D q who ++ payUsed D b names q who) refl refl (pay-9 q who))
+  never-call last (delivery q) = sized (λ d. deliveryAsked d q ++ deliveryUsed d b q) (all-three (deliveryAsked D q ++ deliveryUsed D b q) refl refl (delivery-9 q))
+  never-call last (orderStatus q who) = sized (λ d. statusAsked d q who ++ statusUsed d b names last q who) (all-three (statusAsked D q who ++ statusUsed D b names last q who) refl refl (status-9 last q who))
+  never-call last (stockLevel q) = sized (λ d. levelAsked d q ++ levelUsed d b q) (all-three (levelAsked D q ++ levelUsed D b q) refl refl (level-9 q))
 
-pub never-list : (D : Dims) (b₀ : List ℤ) (names : List ℕ) → Fresh D b₀ names → (rs : List Request) (t : Tally) (b : List ℤ) → Good D b₀ t b → Never (doneAll (lent b names) rs)
-never-list D b₀ names fr [] t b g = tt
-never-list D b₀ names fr (r ∷ rs) t b g =
-    let n = never-call D b₀ names fr t b g r in
-    (n .0, (n .1 .0, (n .1 .1, never-list D b₀ names fr rs (cond (eqb (faultOf (lent b names) r .number) 0) (count (openedAt D b₀ names) r t) t) (numsAfter (lent b names) r) (call-step D b₀ names t b g r))))
+pub never-list : (D : Dims) (b₀ : List ℤ) (names : List ℕ) → Fresh D b₀ names → (rs : List Request) (t : Tally) (b last : List ℤ) → Good D b₀ t b → Never (doneAll (lent b names last) rs)
+never-list D b₀ names fr [] t b last g = tt
+never-list D b₀ names fr (r ∷ rs) t b last g =
+    let n = never-call D b₀ names fr t b g last r in
+    (n .0, (n .1 .0, (n .1 .1, never-list D b₀ names fr rs (cond (eqb (faultOf (lent b names last) r .number) 0) (count (openedAt D b₀ names) r t) t) (numsAfter (lent b names last) r) (lastAfter (lent b names last) r) (call-step D b₀ names t b g last r))))

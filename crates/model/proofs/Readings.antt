@@ -22,14 +22,15 @@ use Rattle.model.specs.Rows.{warehouseTests, districtTests, customerTest
 use Rattle.model.specs.Head.{dims, dimsTests, sizeTests, headOk}
 use Rattle.model.specs.Names.{Who, byNumber, byName, namePlace, lastName, firstName, nameOk, padded, compareNames, named, before, namesakes, found, customerOf}
 use Rattle.model.specs.Used.{warehouseUsed, districtUsed, customerUsed, itemUsed, stockUsed, orderUsed, customersUsed, namesUsed, ordersUsed, whoUsed, lineUsed}
+use Rattle.model.specs.LastOrder.{lastLong, lastOk, foundOk}
 use Rattle.model.specs.Answer.{Answer, committed, refused}
 use Rattle.model.specs.Opening.{newWarehouse, newDistrict, newCustomer, newStock, districtNew, warehouseNew, bookNew, openingFault, openingAnswer}
-use Rattle.model.specs.NewOrder.{newAsked, priceOf, orderable, newUsed, newOrderFault, restock, newOrderCommit, orderTotal, newOrderTotal, newOrderAnswer, newOrderBook}
+use Rattle.model.specs.NewOrder.{newAsked, priceOf, orderable, newUsed, newOrderFault, restock, newOrderCommit, orderTotal, newOrderTotal, newOrderAnswer, newOrderBook, newOrderNoted, newOrderLast}
 use Rattle.model.specs.Payment.{payAsked, payUsed, paymentFault, payer, paymentCommit, paidBalance, paymentAnswer, paymentBook}
 use Rattle.model.specs.Delivery.{deliveryAsked, deliverable, deliveryUsed, deliveryFault, waits, oldest, lineAmounts, deliverOrder, deliverDistrict, deliverTo, deliveryCommit, oldestTen, deliveryAnswer, deliveryOrders, deliveryBook}
-use Rattle.model.specs.OrderStatus.{statusAsked, statusUsed, statusFault, lastOrder, statusCustomer, statusOrder, orderShown, linesPart, statusAnswer, statusPart, statusLines}
+use Rattle.model.specs.OrderStatus.{statusAsked, statusUsed, statusFault, statusCustomer, statusOrder, orderShown, linesPart, statusAnswer, statusPart, statusLines}
 use Rattle.model.specs.StockLevel.{windowFirst, windowCount, levelAsked, windowUsed, levelUsed, stockLevelFault, lineItems, windowItems, isLow, lowItems, stockLevelAnswer}
-use Rattle.model.specs.Request.{Request, stockLevel, Lent, lent, answerOf, ordersOf, shownPart, numsAfter}
+use Rattle.model.specs.Request.{Request, stockLevel, Lent, lent, answerOf, ordersOf, shownPart, numsAfter, lastAfter}
 use Rattle.model.specs.Text.{positives, isNumber, valueOf, decimal, tabbed, lineText, partedBy}
 use Rattle.model.specs.RequestLine.{isName, isWho, whoRead, hasForm, fieldsOf, lineOf, linesRead, readNewOrder, readPayment, readDelivery, readOrderStatus, readStockLevel, readFields, readLine, writeFault, writeAnswer, writeBuffer}
 use Rattle.model.specs.AnswerLine.{answerLine, noFormLine, printedFor, leftAfter}
@@ -51,17 +52,24 @@ abbrev pub leftAll : Lent → List (List ℕ) → Lent
 leftAll s [] = s
 leftAll s (x ∷ xs) = leftAll (leftAfter s (readLine x)) xs
 
--- the numbers after the lines
-abbrev pub left : List ℤ → List ℕ → List Case → List ℤ
-left b names cs = leftAll (lent b names) (lines (asked cs)) .nums
+-- a book lent with last orders all 0
+abbrev pub noneOrdered : List ℤ → List ℤ
+noneOrdered b = replicate (10 * dims b .warehouses * dims b .customers) (pos 0)
+
+abbrev pub fresh : List ℤ → List ℕ → Lent
+fresh b names = lent b names (noneOrdered b)
+
+-- what the lines leave
+abbrev pub left : Lent → List Case → Lent
+left s cs = leftAll s (lines (asked cs))
 
 -- the lines, one after the other, print so
-abbrev pub Prints : List ℤ → List ℕ → List Case → Type 0
-Prints b names cs = answered (lent b names) (lines (asked cs)) ≡ lines (answers cs)
+abbrev pub Prints : Lent → List Case → Type 0
+Prints s cs = answered s (lines (asked cs)) ≡ lines (answers cs)
 
 -- .. and each is refused: "nothing lent is changed"
-abbrev pub Refuses : List ℤ → List ℕ → List Case → Type 0
-Refuses b names cs = Prints b names cs × (left b names cs ≡ b)
+abbrev pub Refuses : Lent → List Case → Type 0
+Refuses s cs = Prints s cs × (left s cs ≡ s)
 
 abbrev pub refusedBy : ℕ → ℕ → Answer
 refusedBy n detail = refused (record { number = n; detail = detail })
@@ -183,7 +191,7 @@ pub record Figures : Type 0 where
   pub once : orderTotal 99 5000 5000 5000 ≡ 99
   -- "Among n equal last names, sorted by first name bytes and then number, place n/2 rounded up is taken.": of 3, 1, 2 the second.
   -- "a last name, compared after padding to 16 bytes" "Nobody in the district has the last name"
-  pub found-by-name : Prints (smallOf 5 0 0 1) people (
+  pub found-by-name : Prints (fresh (smallOf 5 0 0 1) people) (
       prints "P 1 1 1 2 =ALM 1 100" "P 0 1 -100"
       ∷ prints "S 1 2 #1" "S 0 1 -100 0 0 0"
       ∷ prints "S 1 1 =ABCDEFGHIJKLMNOP" "S 0 4 0 0 0 0"
@@ -192,21 +200,21 @@ pub record Figures : Type 0 where
       ∷ prints "S 1 1 =ALMA" "S 10 0"
       ∷ [])
   -- "lots to date rise by the quantity, order count by 1, remote count by 1 if another depot supplies" "An item named twice is taken twice in turn."
-  pub printed : Prints opened everyone delivered
+  pub printed : Prints (fresh opened everyone) delivered
   -- from index 6 + 4 + 60 + 240 + 3 on the stock of depots 1 and 2, then orders 1 and 2.
   -- "customer, entry date, carrier .., line count .., all-local .., waiting .., then 15 lines of item, supplying depot, quantity .., amount ..,
   -- delivery date" "The slot is filled, unused lines 0, carrier 0, waiting 1." "carrier and dates set, waiting 0"
-  pub rows : part 313 186 (left opened everyone delivered)
+  pub rows : part 313 186 (left (fresh opened everyone) delivered .nums)
       ≡ (11 ∷ 9 ∷ 3 ∷ 0 ∷ 20 ∷ 0 ∷ 0 ∷ 0 ∷ 20 ∷ 0 ∷ 0 ∷ 0 ∷ [])
       ++ (20 ∷ 0 ∷ 0 ∷ 0 ∷ 15 ∷ 5 ∷ 1 ∷ 1 ∷ 20 ∷ 0 ∷ 0 ∷ 0 ∷ [])
       ++ (1 ∷ 100 ∷ 10 ∷ 2 ∷ 1 ∷ 0 ∷ 1 ∷ 1 ∷ 3 ∷ 300 ∷ 200 ∷ 1 ∷ 1 ∷ 4 ∷ 400 ∷ 200 ∷ replicate 65 0)
       ++ (2 ∷ 99 ∷ 0 ∷ 2 ∷ 0 ∷ 1 ∷ 1 ∷ 1 ∷ 2 ∷ 200 ∷ 0 ∷ 2 ∷ 2 ∷ 5 ∷ 1250 ∷ 0 ∷ replicate 65 0)
   -- "a ten-bit mark of skipped districts with the count of its ones; bit d − 1 stands for district d": 1,023 less bit 0
-  pub mark : deliveryAnswer (left opened everyone twoOrders) everyone (record { warehouse = 1; carrier = 10; date = 200 })
+  pub mark : deliveryAnswer (left (fresh opened everyone) twoOrders .nums) everyone (record { warehouse = 1; carrier = 10; date = 200 })
       ≡ committed (pos 9 ∷ pos 1022 ∷ [])
   -- "Distinct items on orders numbered from next − 20 (or 1) to next − 1, whose on hand at this depot is below the threshold, counted.":
   -- next 22, so items 2, 3 and 4. "taking the last order by date (clocks go back; the number decides)"
-  pub window : Prints windowBook (alms 10) (
+  pub window : Prints (lent windowBook (alms 10) (pos 21 ∷ replicate 9 (pos 0))) (
       prints "L 1 1 10" "L 0 2"
       ∷ prints "L 1 1 11" "L 0 3"
       ∷ prints "S 1 1 #1" "S 0 1 0 21 30 0 4 1 1 100 0"
@@ -220,7 +228,7 @@ pub record Refusals : Type 0 where
       ∷ openingAnswer (smallOf 1 0 9999 1) (alms 10) ∷ []
       ≡ refusedBy 2 0 ∷ refusedBy 2 0 ∷ refusedBy 2 0 ∷ refusedBy 3 0 ∷ refusedBy 3 0 ∷ refusedBy 3 0 ∷ committed [] ∷ []
   -- 2 before 4
-  pub head : Refuses headless everyone (
+  pub head : Refuses (fresh headless everyone) (
       prints "N 3 1 1 1 1 1 1" "N 2 0"
       ∷ prints "P 3 1 1 1 #1 1 100" "P 2 0"
       ∷ prints "D 3 1 1" "D 2 0"
@@ -228,7 +236,7 @@ pub record Refusals : Type 0 where
       ∷ prints "L 3 1 10" "L 2 0"
       ∷ [])
   -- 4 before 5 before 6 before 7 before 8 before 12. "The detail is the first offending line of an order at 8 and 12, otherwise 0"
-  pub new-order : Refuses opened everyone (
+  pub new-order : Refuses (fresh opened everyone) (
       prints "N 3 11 1 1 1 1 1" "N 4 0"
       ∷ prints "N 0 11 1 1 1 1 1" "N 4 0"
       ∷ prints "N 1 11 3 1 1 1 1" "N 5 0"
@@ -243,15 +251,15 @@ pub record Refusals : Type 0 where
       ∷ prints "N 1 1 1 1 1 1 1 4 1 1 0 1 1" "N 12 2"
       ∷ [])
   -- 8 before 9 before 11 before 12; a slot is left where next is O
-  pub new-order-rows : Refuses spoiledFull everyone (prints "N 2 1 1 1 4 1 11" "N 8 1" ∷ prints "N 2 1 1 1 4 1 1" "N 9 0" ∷ [])
-  pub new-order-full : Refuses full everyone (prints "N 2 1 1 1 4 1 1" "N 11 0" ∷ [])
-  pub new-order-last : Refuses (bookOf 0 0 2) everyone (prints "N 2 1 1 1 4 1 1" "N 12 1" ∷ [])
+  pub new-order-rows : Refuses (fresh spoiledFull everyone) (prints "N 2 1 1 1 4 1 11" "N 8 1" ∷ prints "N 2 1 1 1 4 1 1" "N 9 0" ∷ [])
+  pub new-order-full : Refuses (fresh full everyone) (prints "N 2 1 1 1 4 1 1" "N 11 0" ∷ [])
+  pub new-order-last : Refuses (fresh (bookOf 0 0 2) everyone) (prints "N 2 1 1 1 4 1 1" "N 12 1" ∷ [])
   -- "line count (1 to 15)"; "otherwise 0 (also where the line count itself offends)"
-  pub line-count : map (newOrderAnswer opened everyone (record { warehouse = 1; district = 1; customer = 1; date = 1 }))
+  pub line-count : map (newOrderAnswer opened everyone (noneOrdered opened) (record { warehouse = 1; district = 1; customer = 1; date = 1 }))
       ([] ∷ replicate 16 (record { item = 1; supply = 1; quantity = 0 }) ∷ replicate 15 (record { item = 1; supply = 1; quantity = 0 }) ∷ [])
       ≡ refusedBy 8 0 ∷ refusedBy 8 0 ∷ refusedBy 8 1 ∷ []
   -- 4 before 5 before 6 before 7 before 8 before 10
-  pub payment : Refuses opened everyone (
+  pub payment : Refuses (fresh opened everyone) (
       prints "P 1 11 3 1 #1 1 100" "P 4 0"
       ∷ prints "P 3 1 1 11 #1 1 100" "P 4 0"
       ∷ prints "P 1 1 1 11 #3 1 100" "P 5 0"
@@ -264,16 +272,16 @@ pub record Refusals : Type 0 where
       ∷ prints "P 1 1 1 1 =X 1 100" "P 10 0"
       ∷ [])
   -- 8 before 9 before 10 before 11
-  pub payment-rows : Refuses spoiledFull everyone (
+  pub payment-rows : Refuses (fresh spoiledFull everyone) (
       prints "P 2 1 1 1 =X 1 99" "P 8 0"
       ∷ prints "P 2 1 1 1 =X 1 100" "P 9 0"
       ∷ prints "P 1 1 1 1 =X 1 100" "P 10 0"
       ∷ prints "P 1 1 1 1 =ALM 1 100" "P 11 0"
       ∷ [])
   -- "Payment: depot, district, the customer": not the customer's depot and district
-  pub payment-home : Prints spoiled everyone (prints "P 1 1 2 1 #1 1 100" "P 0 1 -100" ∷ [])
+  pub payment-home : Prints (fresh spoiled everyone) (prints "P 1 1 2 1 #1 1 100" "P 0 1 -100" ∷ [])
   -- 4 before 7 before 8 before 9
-  pub delivery : Refuses spoiled everyone (
+  pub delivery : Refuses (fresh spoiled everyone) (
       prints "D 3 11 0" "D 4 0"
       ∷ prints "D 2 11 0" "D 7 0"
       ∷ prints "D 2 0 6342969601" "D 7 0"
@@ -282,7 +290,7 @@ pub record Refusals : Type 0 where
       ∷ prints "D 2 10 1" "D 9 0"
       ∷ [])
   -- 4 before 5 before 6 before 9 before 10
-  pub order-status : Refuses spoiled everyone (
+  pub order-status : Refuses (fresh spoiled everyone) (
       prints "S 3 11 #1" "S 4 0"
       ∷ prints "S 1 11 #3" "S 5 0"
       ∷ prints "S 2 1 #3" "S 6 0"
@@ -291,7 +299,7 @@ pub record Refusals : Type 0 where
       ∷ prints "S 1 1 =X" "S 10 0"
       ∷ [])
   -- 4 before 5 before 8 before 9
-  pub stock-level : Refuses spoiled everyone (
+  pub stock-level : Refuses (fresh spoiled everyone) (
       prints "L 3 11 9" "L 4 0"
       ∷ prints "L 1 11 9" "L 5 0"
       ∷ prints "L 2 1 9" "L 8 0"
@@ -299,27 +307,27 @@ pub record Refusals : Type 0 where
       ∷ prints "L 2 1 20" "L 9 0"
       ∷ [])
   -- "always so when it is empty or over 16 bytes"; 9 before 10
-  pub no-name : map (λ x. statusAnswer (smallOf 5 0 0 1) people (record { warehouse = 1; district = 1 }) (byName x))
+  pub no-name : map (λ x. statusAnswer (smallOf 5 0 0 1) people (noneOrdered (smallOf 5 0 0 1)) (record { warehouse = 1; district = 1 }) (byName x))
       ([] ∷ bytes "ABCDEFGHIJKLMNOPQ" ∷ (bytes "ABCDEFGHIJKLMNO" ++ (32 ∷ [])) ∷ [])
       ≡ refusedBy 10 0 ∷ refusedBy 10 0 ∷ committed (pos 5 ∷ replicate 4 (pos 0)) ∷ []
-  pub no-name-row : statusAnswer spoiled everyone (record { warehouse = 2; district = 1 }) (byName []) ≡ refusedBy 9 0
+  pub no-name-row : statusAnswer spoiled everyone (noneOrdered spoiled) (record { warehouse = 2; district = 1 }) (byName []) ≡ refusedBy 9 0
 
 -- what stands beside a refusal
 pub record Beside : Type 0 where
   -- "Delivery's ten numbers stand beside it; when refused they are 0": carrier 11, and 10
-  pub ten-numbers : map (λ c. deliveryOrders (left opened everyone twoOrders) everyone (record { warehouse = 1; carrier = c; date = 200 })) (11 ∷ 10 ∷ [])
+  pub ten-numbers : map (λ c. deliveryOrders (left (fresh opened everyone) twoOrders .nums) everyone (record { warehouse = 1; carrier = c; date = 200 })) (11 ∷ 10 ∷ [])
       ≡ replicate 10 0 ∷ (1 ∷ replicate 9 0) ∷ []
   -- "a refused status shows an empty part": with the district's tax, at index 10 of the book, out of range, and in range
-  pub part-shown : map (λ t. statusLines (set (left opened everyone twoOrders) 10 (pos t)) everyone (record { warehouse = 1; district = 1 }) (byNumber 2))
+  pub part-shown : map (λ t. statusLines (set (left (fresh opened everyone) twoOrders .nums) 10 (pos t)) everyone (left (fresh opened everyone) twoOrders .last) (record { warehouse = 1; district = 1 }) (byNumber 2))
       (10000 ∷ 9999 ∷ [])
       ≡ [] ∷ positives (1 ∷ 1 ∷ 2 ∷ 200 ∷ 0 ∷ 2 ∷ 2 ∷ 5 ∷ 1250 ∷ 0 ∷ []) ∷ []
   -- "line count times five, starting in the order slot": refused; order 2, behind 337 numbers and one slot of 81, from its column 6; no order
-  pub part-place : map (λ x. statusPart (set (left opened everyone twoOrders) 10 (pos x)) everyone (record { warehouse = 1; district = 1 }) (byNumber 2))
+  pub part-place : map (λ x. statusPart (set (left (fresh opened everyone) twoOrders .nums) 10 (pos x)) everyone (left (fresh opened everyone) twoOrders .last) (record { warehouse = 1; district = 1 }) (byNumber 2))
       (10000 ∷ 9999 ∷ [])
       ≡ record { from = 0; count = 0 } ∷ record { from = 424; count = 10 } ∷ []
-  pub no-place : statusPart opened everyone (record { warehouse = 1; district = 1 }) (byNumber 2) ≡ record { from = 0; count = 0 }
+  pub no-place : statusPart opened everyone (noneOrdered opened) (record { warehouse = 1; district = 1 }) (byNumber 2) ≡ record { from = 0; count = 0 }
   -- "A line refused by 1 prints ?, 1, 0." "at most ten digits, no leading zero but "0" itself" "a name of 1 to 16 bytes" "1 to 15 times"
-  pub no-form : Refuses opened everyone (
+  pub no-form : Refuses (fresh opened everyone) (
       prints "" "? 1 0"
       ∷ prints "X 1 1 10" "? 1 0"
       ∷ prints "L 01 1 10" "? 1 0"
@@ -332,7 +340,7 @@ pub record Beside : Type 0 where
       ∷ prints "N 1 1 1 1 1 1 1 1 1 1 1 1 1 1 1 1 1 1 1 1 1 1 1 1 1 1 1 1 1 1 1 1 1 1 1 1 1 1 1 1 1 1 1 1 1 1 1 1 1 1 1 1" "? 1 0"
       ∷ [])
   -- "a last one without byte 10, has no form"
-  pub unended : printedFor (lent opened everyone) (readLine (bytes "L 1 1 10")) ≡ bytes "? 1 0" ++ (10 ∷ [])
+  pub unended : printedFor (fresh opened everyone) (readLine (bytes "L 1 1 10")) ≡ bytes "? 1 0" ++ (10 ∷ [])
   -- "in writing, the request has none or the lent buffer is shorter than its line" "writing answers the length and leaves the bytes beyond it"
   pub writing : writeAnswer [] (level 10000000000) ∷ writeAnswer (replicate 30 7) (level 10000000000) ∷ writeAnswer (replicate 17 7) (level 9999999999)
       ∷ writeAnswer (replicate 8 7) (level 18) ∷ writeAnswer (replicate 9 7) (level 18) ∷ []
@@ -343,7 +351,7 @@ pub record Beside : Type 0 where
 -- both ends of the ranges
 pub record Limits : Type 0 where
   -- 15 lines of the dearest item; the last depot, district, customer, carrier and date; the largest quantity, amount and threshold; the least of each
-  pub passed : Prints opened everyone (
+  pub passed : Prints (fresh opened everyone) (
       prints "D 1 1 1" "D 0 10 0 0 0 0 0 0 0 0 0 0"
       ∷ prints "N 1 1 2 6342969600 3 2 10 3 2 10 3 2 10 3 2 10 3 2 10 3 2 10 3 2 10 3 2 10 3 2 10 3 2 10 3 2 10 3 2 10 3 2 10 3 2 10 3 2 10" "N 0 1 14999850"
       ∷ prints "N 1 1 1 1 1 1 1" "N 0 2 100"
@@ -388,7 +396,7 @@ pub record Readings : Type 0 where
   pub limits : Limits
 
 pub readings : Readings
-unfolding allTo nat cell balanceOk numbers nameBytes inside place get remap op upTo sumOf lowest largest warehouseTests districtTests customerTests itemTests stockTests slot orderTests lineTests orderOk dims dimsTests sizeTests headOk namePlace lastName firstName nameOk padded compareNames named before namesakes found customerOf warehouseUsed districtUsed customerUsed itemUsed stockUsed orderUsed customersUsed namesUsed ordersUsed whoUsed lineUsed newAsked priceOf orderable newUsed newOrderFault restock newOrderCommit orderTotal newOrderTotal newOrderAnswer newOrderBook payAsked payUsed paymentFault payer paymentCommit paidBalance paymentAnswer paymentBook deliveryAsked deliverable deliveryUsed deliveryFault waits oldest lineAmounts deliverOrder deliverDistrict deliverTo deliveryCommit oldestTen deliveryAnswer deliveryBook statusAsked statusUsed statusFault lastOrder statusCustomer statusOrder orderShown linesPart statusAnswer statusPart statusLines windowFirst windowCount levelAsked windowUsed levelUsed stockLevelFault lineItems windowItems isLow lowItems stockLevelAnswer answerOf numsAfter deliveryOrders ones ordersOf shownPart decimal tabbed lineText answerLine noFormLine printedFor leftAfter isNumber valueOf isName isWho whoRead partedBy linesRead readNewOrder readPayment readDelivery readOrderStatus readStockLevel readFields readLine newWarehouse newDistrict newCustomer newStock districtNew warehouseNew bookNew openingFault openingAnswer hasForm fieldsOf lineOf writeFault writeAnswer writeBuffer
+unfolding allTo nat cell balanceOk numbers nameBytes inside place get remap op upTo sumOf lowest largest warehouseTests districtTests customerTests itemTests stockTests slot orderTests lineTests orderOk dims dimsTests sizeTests headOk namePlace lastName firstName nameOk padded compareNames named before namesakes found customerOf warehouseUsed districtUsed customerUsed itemUsed stockUsed orderUsed customersUsed namesUsed ordersUsed whoUsed lineUsed lastLong lastOk foundOk newAsked priceOf orderable newUsed newOrderFault restock newOrderCommit orderTotal newOrderTotal newOrderAnswer newOrderBook newOrderNoted newOrderLast payAsked payUsed paymentFault payer paymentCommit paidBalance paymentAnswer paymentBook deliveryAsked deliverable deliveryUsed deliveryFault waits oldest lineAmounts deliverOrder deliverDistrict deliverTo deliveryCommit oldestTen deliveryAnswer deliveryBook statusAsked statusUsed statusFault statusCustomer statusOrder orderShown linesPart statusAnswer statusPart statusLines windowFirst windowCount levelAsked windowUsed levelUsed stockLevelFault lineItems windowItems isLow lowItems stockLevelAnswer answerOf numsAfter lastAfter deliveryOrders ones ordersOf shownPart decimal tabbed lineText answerLine noFormLine printedFor leftAfter isNumber valueOf isName isWho whoRead partedBy linesRead readNewOrder readPayment readDelivery readOrderStatus readStockLevel readFields readLine newWarehouse newDistrict newCustomer newStock districtNew warehouseNew bookNew openingFault openingAnswer hasForm fieldsOf lineOf writeFault writeAnswer writeBuffer
 readings = record {
   figures = record { fraction = refl; once = refl; found-by-name = refl; printed = refl; rows = refl; mark = refl; window = refl };
   refusals = record { opening = refl; head = (refl, refl); new-order = (refl, refl); new-order-rows = (refl, refl); new-order-full = (refl, refl); new-order-last = (refl, refl); line-count = refl; payment = (refl, refl); payment-rows = (refl, refl); payment-home = refl; delivery = (refl, refl); order-status = (refl, refl); stock-level = (refl, refl); no-name = refl; no-name-row = refl };

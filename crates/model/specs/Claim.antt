@@ -5,14 +5,16 @@ use mathlib.Core.Bool.{cond}
 use mathlib.Core.List.{List, [], _∷_}
 use mathlib.Core.Logic.{_≢_}
 use Prim.Native.Nat.{ℕ, _+_, _-_, _*_, _≤_}
-use lib.Dec.{ltb}
+use lib.Dec.{ltb, eqb}
 use lib.IntN.{ℤ, pos, _+ℤ_, _-ℤ_}
-use lib.ListN.{length, getD}
+use lib.ListN.{length, getD, replicate}
 use Rattle.model.specs.declared.Dims.{Dims}
 use Rattle.model.specs.Layout.{shapes}
 use Rattle.model.specs.Store.{get, num}
-use Rattle.model.specs.Rows.{historyCount, warehouseYtd, districtYtd, nextOrder, balance, ytdPayment, onHand, stockYtd, waiting, historyCol}
+use Rattle.model.specs.Rows.{historyCount, warehouseYtd, districtYtd, nextOrder, balance, ytdPayment, onHand, stockYtd, orderCustomer, waiting, historyCol}
 use Rattle.model.specs.Head.{dims}
+use Rattle.model.specs.Lists.{largest}
+use Rattle.model.specs.LastOrder.{lastAt}
 use Rattle.model.specs.Opening.{openingFault}
 use Rattle.model.specs.Request.{Request, Lent}
 use Rattle.model.specs.Tally.{Tally, Done, Paid, N, M, charged, openedOf, start, tally, afterAll, doneAll}
@@ -73,8 +75,35 @@ abbrev pub Never : List Done → Type 0
 Never [] = Unit {0}
 Never (x ∷ xs) = (x .number ≢ 2) × ((x .number ≢ 3) × ((x .number ≢ 9) × Never xs))
 
--- "Take any list of the five calls .., refused ones included, from a book that opening has just accepted."
+-- "Take any list of the five calls .., refused ones included, from a book that opening has just accepted.", whatever last orders are lent beside it
 abbrev pub Demand : Type 0
 Demand =
     (s : Lent) → openingFault (s .nums) (s .names) .number ≡ 0 → (rs : List Request)
     → Claim (dims (s .nums)) (s .nums) (tally (openedOf (s .nums) (s .names)) (doneAll s rs) start) (afterAll s rs .nums) × Never (doneAll s rs)
+
+-- ── R-1 ──
+-- "the one the scan would find": of the orders before next the largest number of one that is the customer's, 0 where none is
+unfoldable pub lastOrder : Dims → List ℤ → ℕ → ℕ → ℕ → ℕ
+lastOrder d b w k c = largest (λ o. eqb (num (shapes d) b (orderCustomer d w k o)) c) (num (shapes d) b (nextOrder w k) - 1)
+
+-- "from an opened book with this slice all 0"
+pub record Started (s : Lent) : Type 0 where
+  pub accepted : openingFault (s .nums) (s .names) .number ≡ 0
+  pub zeros : s .last ≡ replicate (10 * dims (s .nums) .warehouses * dims (s .nums) .customers) (pos 0)
+
+-- "For every list of calls .., each number is the one the scan would find."; the slice keeps its length
+abbrev pub LastOrders : Type 0
+LastOrders =
+    (s : Lent) → Started s → (rs : List Request)
+    → (length (afterAll s rs .last) ≡ 10 * dims (s .nums) .warehouses * dims (s .nums) .customers)
+    × ((w k c : ℕ) → R (dims (s .nums) .warehouses) w → R 10 k → R (dims (s .nums) .customers) c
+    → lastAt (dims (s .nums)) (afterAll s rs .last) w k c ≡ pos (lastOrder (dims (s .nums)) (afterAll s rs .nums) w k c))
+
+-- a refusal that no call of a list was answered
+abbrev pub NeverBy : ℕ → List Done → Type 0
+NeverBy n [] = Unit {0}
+NeverBy n (x ∷ xs) = (x .number ≢ n) × NeverBy n xs
+
+-- 13 is never answered by the calls of such a list
+abbrev pub LastServes : Type 0
+LastServes = (s : Lent) → Started s → (rs : List Request) → NeverBy 13 (doneAll s rs)

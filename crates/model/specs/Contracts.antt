@@ -20,7 +20,7 @@ use Rattle.model.specs.declared.StockLevelAnswer.{StockLevelAnswer}
 use Rattle.model.specs.Names.{Who}
 use Rattle.model.specs.Answer.{openingSays, newOrderSays, paymentSays, deliverySays, statusSays, stockLevelSays}
 use Rattle.model.specs.Opening.{openingAnswer}
-use Rattle.model.specs.NewOrder.{newOrderAnswer, newOrderBook}
+use Rattle.model.specs.NewOrder.{newOrderAnswer, newOrderBook, newOrderLast}
 use Rattle.model.specs.Payment.{paymentAnswer, paymentBook}
 use Rattle.model.specs.Delivery.{deliveryAnswer, deliveryOrders, deliveryBook}
 use Rattle.model.specs.OrderStatus.{statusAnswer, statusPart, statusLines}
@@ -30,9 +30,11 @@ use Rattle.model.specs.StockLevel.{stockLevelAnswer}
 pub record OpeningCall (b : List ℤ) (names : List ℕ) (r : OpeningAnswer) : Type 0 where
   pub says : openingSays (r .outcome) ≡ openingAnswer b names
 
-pub record NewOrderCall (b : List ℤ) (names : List ℕ) (q : NewOrder) (lines : List Line) (r : NewOrderAnswer) (left : List ℤ) : Type 0 where
-  pub says : newOrderSays (r .outcome) ≡ newOrderAnswer b names q lines
-  pub leaves : left ≡ newOrderBook b names q lines
+-- left: the numbers as the call leaves them; noted: the last orders
+pub record NewOrderCall (b : List ℤ) (names : List ℕ) (last : List ℤ) (q : NewOrder) (lines : List Line) (r : NewOrderAnswer) (left noted : List ℤ) : Type 0 where
+  pub says : newOrderSays (r .outcome) ≡ newOrderAnswer b names last q lines
+  pub leaves : left ≡ newOrderBook b names last q lines
+  pub notes : noted ≡ newOrderLast b names last q lines
 
 pub record PaymentCall (b : List ℤ) (names : List ℕ) (q : Payment) (who : Who) (r : PaymentAnswer) (left : List ℤ) : Type 0 where
   pub says : paymentSays (r .outcome) ≡ paymentAnswer b names q who
@@ -45,10 +47,10 @@ pub record DeliveryCall (b : List ℤ) (names : List ℕ) (q : Delivery) (r : De
   pub leaves : left ≡ deliveryBook b names q
 
 -- "its lines are shown as that part of the lent book, not copied": the returned slice lies in the lent one, 8 bytes a number
-pub record StatusCall (b : List ℤ) (names : List ℕ) (q : OrderStatus) (who : Who) (outcome : StatusOutcome) (shown : List ℤ) (book at : ℕ × ℕ) : Type 0 where
-  pub says : statusSays outcome ≡ statusAnswer b names q who
-  pub shows : shown ≡ statusLines b names q who
-  pub lies : at ≡ (book .0, book .1 + 8 * statusPart b names q who .from)
+pub record StatusCall (b : List ℤ) (names : List ℕ) (last : List ℤ) (q : OrderStatus) (who : Who) (outcome : StatusOutcome) (shown : List ℤ) (book at : ℕ × ℕ) : Type 0 where
+  pub says : statusSays outcome ≡ statusAnswer b names last q who
+  pub shows : shown ≡ statusLines b names last q who
+  pub lies : at ≡ (book .0, book .1 + 8 * statusPart b names last q who .from)
 
 pub record StockLevelCall (b : List ℤ) (names : List ℕ) (q : StockLevel) (r : StockLevelAnswer) : Type 0 where
   pub says : stockLevelSays (r .outcome) ≡ stockLevelAnswer b names q

@@ -72,3 +72,10 @@ inside h a = (((a .x - 1) * h .ys + (a .y - 1)) * h .zs + (a .z - 1)) * h .ks + 
 -- the index of an address
 unfoldable pub place : List Shape → Addr → ℕ
 place l a = base l (a .s) + inside (getD l (a .s) none) a
+
+-- a slice beside the book with one number per customer, rows by depot, district, number: one section
+abbrev pub perCustomer : Dims → List Shape
+perCustomer d = sh (d .warehouses) 10 (d .customers) 1 ∷ []
+
+abbrev pub ofCustomer : ℕ → ℕ → ℕ → Addr
+ofCustomer w k c = at 0 w k c 0

@@ -9,6 +9,7 @@ pub mod Head
 pub mod Names
 pub mod Lists
 pub mod Used
+pub mod LastOrder
 pub mod Answer
 pub mod Opening
 pub mod NewOrder

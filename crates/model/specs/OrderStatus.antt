@@ -1,8 +1,7 @@
 -- "Order-Status (depot, district, who)."
 -- Assumes nothing.
 use mathlib.Core.List.{List, [], _∷_}
-use Prim.Native.Nat.{ℕ, zero, suc, _-_, _*_}
-use lib.Dec.{eqb}
+use Prim.Native.Nat.{ℕ, zero, suc, _*_}
 use lib.IntN.{ℤ, pos}
 use lib.ListN.{length, take, drop}
 use Rattle.model.specs.declared.Dims.{Dims}
@@ -11,12 +10,13 @@ use Rattle.model.specs.declared.Part.{Part}
 use Rattle.model.specs.declared.Refusal.{Refusal}
 use Rattle.model.specs.Tests.{every, within, Check, chk, staged}
 use Rattle.model.specs.Layout.{shapes, place}
+use Rattle.model.specs.Numbers.{nat}
 use Rattle.model.specs.Store.{get, num}
-use Rattle.model.specs.Rows.{nextOrder, balance, orderCol, orderCustomer, entryDate, carrier, lineCount}
+use Rattle.model.specs.Rows.{balance, orderCol, entryDate, carrier, lineCount}
 use Rattle.model.specs.Head.{dims, headOk}
 use Rattle.model.specs.Names.{Who, whoTests, customerOf, isFound, foundNumber}
-use Rattle.model.specs.Lists.{largest}
-use Rattle.model.specs.Used.{districtUsed, whoUsed, ordersUsed}
+use Rattle.model.specs.Used.{districtUsed, whoUsed}
+use Rattle.model.specs.LastOrder.{lastAt, lastLong, lastOk, foundOk}
 use Rattle.model.specs.Answer.{Answer, answerBy, leftBy}
 
 -- what the request decides
@@ -27,28 +27,29 @@ statusAsked d q who =
     ∷ chk (every (whoTests d who)) 6
     ∷ []
 
--- 9: "Order-Status: district, the customer (by name, all), orders before next." 10: "Nobody in the district has the last name"
-unfoldable pub statusUsed : Dims → List ℤ → List ℕ → OrderStatus → Who → List Check
-statusUsed d b names q who =
-    chk (districtUsed d b (q .warehouse) (q .district)) 9
-    ∷ chk (whoUsed d b names (q .warehouse) (q .district) who) 9
-    ∷ chk (ordersUsed d b (q .warehouse) (q .district)) 9
-    ∷ chk (isFound (customerOf d names (q .warehouse) (q .district) who)) 10
-    ∷ []
-
-unfoldable pub statusFault : List ℤ → List ℕ → OrderStatus → Who → Refusal
-statusFault b names q who = staged (headOk b (length names)) (statusAsked (dims b) q who) (statusUsed (dims b) b names q who)
-
--- "the largest order number of that customer"; 0 where it has none
-unfoldable pub lastOrder : Dims → List ℤ → ℕ → ℕ → ℕ → ℕ
-lastOrder d b w k c = largest (λ o. eqb (num (shapes d) b (orderCustomer d w k o)) c) (num (shapes d) b (nextOrder w k) - 1)
-
--- the customer asked about, and its last order
+-- the customer asked about
 unfoldable pub statusCustomer : Dims → List ℕ → OrderStatus → Who → ℕ
 statusCustomer d names q who = foundNumber (customerOf d names (q .warehouse) (q .district) who)
 
-unfoldable pub statusOrder : Dims → List ℤ → List ℕ → OrderStatus → Who → ℕ
-statusOrder d b names q who = lastOrder d b (q .warehouse) (q .district) (statusCustomer d names q who)
+-- "the largest order number of that customer"; R-1: "Order-Status reads it, in demand 2 too taking as it stands what 13 passes": also where that
+-- order is another customer's
+unfoldable pub statusOrder : Dims → List ℕ → List ℤ → OrderStatus → Who → ℕ
+statusOrder d names last q who = nat (lastAt d last (q .warehouse) (q .district) (statusCustomer d names q who))
+
+-- 9: "Order-Status: district, the customer (by name, all)", since R-1 has "orders leave the latter's used rows". 10: "Nobody in the district has
+-- the last name". R-1: 13 is "checked after 10"
+unfoldable pub statusUsed : Dims → List ℤ → List ℕ → List ℤ → OrderStatus → Who → List Check
+statusUsed d b names last q who =
+    chk (districtUsed d b (q .warehouse) (q .district)) 9
+    ∷ chk (whoUsed d b names (q .warehouse) (q .district) who) 9
+    ∷ chk (isFound (customerOf d names (q .warehouse) (q .district) who)) 10
+    ∷ chk (lastLong d last) 13
+    ∷ chk (lastOk d b last (q .warehouse) (q .district)) 13
+    ∷ chk (foundOk d b (q .warehouse) (q .district) (statusOrder d names last q who)) 13
+    ∷ []
+
+unfoldable pub statusFault : List ℤ → List ℕ → List ℤ → OrderStatus → Who → Refusal
+statusFault b names last q who = staged (headOk b (length names)) (statusAsked (dims b) q who) (statusUsed (dims b) b names last q who)
 
 -- ".. with entry date and carrier" "No order: number, date and carrier 0 and an empty part."
 unfoldable pub orderShown : Dims → List ℤ → ℕ → ℕ → ℕ → List ℤ
@@ -68,18 +69,18 @@ linesPart d b w k zero = emptyPart
 linesPart d b w k (suc o) = record { from = place (shapes d) (orderCol d w k (suc o) 6); count = num (shapes d) b (lineCount d w k (suc o)) * 5 }
 
 -- "Answered: customer, balance, and the largest order number of that customer with entry date and carrier"
-unfoldable pub statusAnswer : List ℤ → List ℕ → OrderStatus → Who → Answer
-statusAnswer b names q who =
-    answerBy (statusFault b names q who)
+unfoldable pub statusAnswer : List ℤ → List ℕ → List ℤ → OrderStatus → Who → Answer
+statusAnswer b names last q who =
+    answerBy (statusFault b names last q who)
     (pos (statusCustomer (dims b) names q who)
     ∷ get (shapes (dims b)) b (balance (q .warehouse) (q .district) (statusCustomer (dims b) names q who))
-    ∷ orderShown (dims b) b (q .warehouse) (q .district) (statusOrder (dims b) b names q who))
+    ∷ orderShown (dims b) b (q .warehouse) (q .district) (statusOrder (dims b) names last q who))
 
 -- "a refused status shows an empty part"
-unfoldable pub statusPart : List ℤ → List ℕ → OrderStatus → Who → Part
-statusPart b names q who =
-    leftBy (statusFault b names q who) (linesPart (dims b) b (q .warehouse) (q .district) (statusOrder (dims b) b names q who)) emptyPart
+unfoldable pub statusPart : List ℤ → List ℕ → List ℤ → OrderStatus → Who → Part
+statusPart b names last q who =
+    leftBy (statusFault b names last q who) (linesPart (dims b) b (q .warehouse) (q .district) (statusOrder (dims b) names last q who)) emptyPart
 
 -- "its lines are shown as that part of the lent book, not copied"
-unfoldable pub statusLines : List ℤ → List ℕ → OrderStatus → Who → List ℤ
-statusLines b names q who = partOf (statusPart b names q who) b
+unfoldable pub statusLines : List ℤ → List ℕ → List ℤ → OrderStatus → Who → List ℤ
+statusLines b names last q who = partOf (statusPart b names last q who) b

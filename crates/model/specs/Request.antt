@@ -17,7 +17,7 @@ use Rattle.model.specs.declared.Refusal.{Refusal}
 use Rattle.model.specs.declared.StockLevel.{StockLevel}
 use Rattle.model.specs.Names.{Who, whoOf}
 use Rattle.model.specs.Answer.{Answer}
-use Rattle.model.specs.NewOrder.{newOrderFault, newOrderAnswer, newOrderBook}
+use Rattle.model.specs.NewOrder.{newOrderFault, newOrderAnswer, newOrderBook, newOrderLast}
 use Rattle.model.specs.Payment.{paymentFault, paymentAnswer, paymentBook}
 use Rattle.model.specs.Delivery.{deliveryFault, deliveryAnswer, deliveryOrders, deliveryBook}
 use Rattle.model.specs.OrderStatus.{emptyPart, partOf, statusFault, statusAnswer, statusPart}
@@ -59,23 +59,25 @@ pub record Lent : Type 0 where
   pub nums : List ℤ
   -- name bytes, lent to be read only
   pub names : List ℕ
+  -- R-1: the largest order number of each customer
+  pub last : List ℤ
 
-abbrev pub lent : List ℤ → List ℕ → Lent
-lent b names = record { nums = b; names = names }
+abbrev pub lent : List ℤ → List ℕ → List ℤ → Lent
+lent b names last = record { nums = b; names = names; last = last }
 
 -- the first refusal that fits a request on what is lent; number 0 where it is committed
 unfoldable pub faultOf : Lent → Request → Refusal
-faultOf s (newOrder q lines) = newOrderFault (s .nums) (s .names) q lines
+faultOf s (newOrder q lines) = newOrderFault (s .nums) (s .names) (s .last) q lines
 faultOf s (payment q who) = paymentFault (s .nums) (s .names) q who
 faultOf s (delivery q) = deliveryFault (s .nums) (s .names) q
-faultOf s (orderStatus q who) = statusFault (s .nums) (s .names) q who
+faultOf s (orderStatus q who) = statusFault (s .nums) (s .names) (s .last) q who
 faultOf s (stockLevel q) = stockLevelFault (s .nums) (s .names) q
 
 unfoldable pub answerOf : Lent → Request → Answer
-answerOf s (newOrder q lines) = newOrderAnswer (s .nums) (s .names) q lines
+answerOf s (newOrder q lines) = newOrderAnswer (s .nums) (s .names) (s .last) q lines
 answerOf s (payment q who) = paymentAnswer (s .nums) (s .names) q who
 answerOf s (delivery q) = deliveryAnswer (s .nums) (s .names) q
-answerOf s (orderStatus q who) = statusAnswer (s .nums) (s .names) q who
+answerOf s (orderStatus q who) = statusAnswer (s .nums) (s .names) (s .last) q who
 answerOf s (stockLevel q) = stockLevelAnswer (s .nums) (s .names) q
 
 -- beside the answer: Delivery's ten numbers, and where the lines are that a status shows
@@ -90,7 +92,7 @@ unfoldable pub shownPart : Lent → Request → Part
 shownPart s (newOrder q lines) = emptyPart
 shownPart s (payment q who) = emptyPart
 shownPart s (delivery q) = emptyPart
-shownPart s (orderStatus q who) = statusPart (s .nums) (s .names) q who
+shownPart s (orderStatus q who) = statusPart (s .nums) (s .names) (s .last) q who
 shownPart s (stockLevel q) = emptyPart
 
 -- the lines themselves
@@ -99,12 +101,20 @@ shownOf s r = partOf (shownPart s r) (s .nums)
 
 -- the book's numbers as a call leaves them
 unfoldable pub numsAfter : Lent → Request → List ℤ
-numsAfter s (newOrder q lines) = newOrderBook (s .nums) (s .names) q lines
+numsAfter s (newOrder q lines) = newOrderBook (s .nums) (s .names) (s .last) q lines
 numsAfter s (payment q who) = paymentBook (s .nums) (s .names) q who
 numsAfter s (delivery q) = deliveryBook (s .nums) (s .names) q
 numsAfter s (orderStatus q who) = s .nums
 numsAfter s (stockLevel q) = s .nums
 
+-- R-1: "New-Order maintains it and alone writes it"
+unfoldable pub lastAfter : Lent → Request → List ℤ
+lastAfter s (newOrder q lines) = newOrderLast (s .nums) (s .names) (s .last) q lines
+lastAfter s (payment q who) = s .last
+lastAfter s (delivery q) = s .last
+lastAfter s (orderStatus q who) = s .last
+lastAfter s (stockLevel q) = s .last
+
 -- all that is lent as a call leaves it; the names are only read
 abbrev pub after : Lent → Request → Lent
-after s r = record { nums = numsAfter s r; names = s .names }
+after s r = record { nums = numsAfter s r; names = s .names; last = lastAfter s r }

@@ -164,7 +164,8 @@ sums c (o ∷ os) = cond (eqb c (o .customer)) (o .sum) 0 + sums c os
 abbrev pub charged : Tally → ℕ → ℕ → ℕ → ℕ
 charged t w k c = sums c (take (M t w k) (t .orders w k))
 
--- "Take any list of the five calls below, refused ones included .. Each call gets both slices as the one before left them"
+-- "Take any list of the five calls below, refused ones included .. Each call gets both slices as the one before left them"; R-1's slice is "one and
+-- the same through a list of calls"
 abbrev pub afterAll : Lent → List Request → Lent
 afterAll s [] = s
 afterAll s (r ∷ rs) = afterAll (after s r) rs

@@ -5,24 +5,22 @@ ghost use mathlib.Core.List.{[], _∷_};
 ghost use Prim.Native.Nat.{_+_, _*_, _≤_};
 ghost use lib.IntN.{pos};
 ghost use lib.ListN.{length};
-ghost use Rattle.model.specs.Tests.{every, allTo, fault};
+ghost use Rattle.model.specs.Tests.{every, fault};
 ghost use Rattle.model.specs.Layout.{shapes, nameBytes};
 ghost use Rattle.model.specs.Store.{get, num};
 ghost use Rattle.model.specs.Rows.{balance, lineCount};
-ghost use Rattle.model.specs.Names.{whoOf, whoTests, customerOf, foundNumber};
-ghost use Rattle.model.specs.Lists.{largest};
-ghost use Rattle.model.specs.Used.{districtUsed, ordersUsed, whoUsed};
+ghost use Rattle.model.specs.Names.{whoOf, whoTests, customerOf};
+ghost use Rattle.model.specs.Used.{whoUsed};
+ghost use Rattle.model.specs.LastOrder.{foundOk};
 ghost use Rattle.model.specs.Answer.{refused, statusSays};
-ghost use Rattle.model.specs.OrderStatus.{statusAsked, lastOrder, orderShown, emptyPart, partOf, linesPart};
+ghost use Rattle.model.specs.OrderStatus.{statusAsked, orderShown, emptyPart, partOf, linesPart};
 ghost use Rattle.model.specs.Claim.{R};
 ghost use Rattle.model.proofs.Fields.{Dimensioned, Shaped};
 ghost use Rattle.model.proofs.StatusFacts.{StatusAsked};
 ghost use Rattle.model.specs.Contracts.{StatusCall};
-ghost use Rattle.layout.specs.Runs.{RowsIn};
-ghost use Rattle.rows.specs.Book.{Booked, okAt};
-ghost use Rattle.order_status.specs.Seen.{seenUsed, seenIn, nothing, scannedBy, isAt, ShownCall};
+ghost use Rattle.rows.specs.Book.{Booked};
+ghost use Rattle.order_status.specs.Seen.{seenUsed, seenIn, nothing, ShownCall};
 use layout::Head;
-use layout::Run;
 use model::Dims;
 use model::Found;
 use model::OrderStatus;
@@ -37,12 +35,6 @@ pub struct Seen {
     pub refusal: Refusal,
     pub customer: u64,
     pub order: u64,
-}
-
-// What one pass over orders' rows finds: whether all are in range, and the last that is of a customer where they are, 0 where none is.
-pub struct Scanned {
-    pub fine: bool,
-    pub last: u64,
 }
 
 // What a status answers: the outcome, and the part of the book that holds the shown lines.
@@ -85,42 +77,6 @@ fn nothing_seen(number: u64) -> Seen
     }
 }
 
-// One pass over a run of orders' rows: whether each is in range, and the last that is of a customer, 0 where none is.
-fn scan(b: &[i64], d: Dims, run: Run, c: u64) -> Scanned
-    requires { ⌜ Dimensioned d × RowsIn run (length (now b)) ⌝ }
-    ensures { λ r. ⌜ r ≡ scannedBy (allTo (run .count) (okAt d (now (b .entry)) run)) (largest (isAt (now (b .entry)) run c) (run .count)) ⌝ }
-{
-    let n = run.count;
-    let mut o = 0;
-    let mut last = 0;
-    while o < n {
-        let p = layout::order_in(run, o);
-        if !rows::order_ok(b, d, p) {
-            return Scanned {
-                fine: false,
-                last: 0,
-            };
-        }
-        let customer = cells::held(b, p);
-        o += 1;
-        if customer == c {
-            last = o;
-        }
-    }
-    Scanned { fine: true, last }
-}
-
-// The orders before next are in range, and the largest order number of a customer, 0 where it has none; the district's row has been found in range.
-fn orders_scanned(b: &[i64], d: Dims, w: u64, k: u64, c: u64) -> Scanned
-    requires { ⌜ Booked d (now b) × (R (d .warehouses) w × (R 10 k × (districtUsed d (now b) w k ≡ true))) ⌝ }
-    ensures { λ r. ⌜ r ≡ scannedBy (ordersUsed d (now (b .entry)) w k) (lastOrder d (now (b .entry)) w k c) ⌝ }
-{
-    let next = rows::next_order(b, d, w, k);
-    let n = next - 1;
-    let run = layout::orders_run(d, w, k, 1, n);
-    scan(b, d, run, c)
-}
-
 // The customer that a request names, by number or by last name.
 fn customer_of(names: &[u8], d: Dims, w: u64, k: u64, who: Selection, name: &[u8]) -> Found
     requires { ⌜ Dimensioned d × (R (d .warehouses) w × (R 10 k × (length (now names) ≡ nameBytes d))) ⌝ }
@@ -129,16 +85,6 @@ fn customer_of(names: &[u8], d: Dims, w: u64, k: u64, who: Selection, name: &[u8
     match who {
         Selection::Number(c) => Found::Customer(c),
         Selection::LastName => lookup::find(names, d, w, k, name),
-    }
-}
-
-// The number of a customer that was found, 0 for nobody.
-fn number_of(found: Found) -> u64
-    ensures { λ r. ⌜ r ≡ foundNumber found ⌝ }
-{
-    match found {
-        Found::Customer(c) => c,
-        Found::Nobody => 0,
     }
 }
 
@@ -154,10 +100,30 @@ fn who_used(b: &[i64], names: &[u8], d: Dims, w: u64, k: u64, who: Selection, na
     }
 }
 
-// The first refusal that the rows and names decide, the customer and its last order.
-fn used(b: &[i64], names: &[u8], d: Dims, q: OrderStatus, who: Selection, name: &[u8]) -> Seen
+// 13: the order that is found is in range; order 0 is none.
+fn found_ok(b: &[i64], d: Dims, w: u64, k: u64, o: u64) -> bool
+    requires { ⌜ Booked d (now b) × (R (d .warehouses) w × (R 10 k × (o ≤ d .orders))) ⌝ }
+    ensures { λ r. ⌜ r ≡ foundOk d (now (b .entry)) w k o ⌝ }
+{
+    if o == 0 {
+        return true;
+    }
+    let row = layout::order_at(d, w, k, o);
+    rows::order_ok(b, d, row)
+}
+
+// The first refusal that the rows, names and last orders decide, the customer and its last order.
+fn used(
+    b: &[i64],
+    names: &[u8],
+    last: &[i64],
+    d: Dims,
+    q: OrderStatus,
+    who: Selection,
+    name: &[u8],
+) -> Seen
     requires { ⌜ Shaped d (now b) (length (now names)) × StatusAsked d q (whoOf who (now name)) ⌝ }
-    ensures { λ r. ⌜ r ≡ seenUsed d (now (b .entry)) (now (names .entry)) q (whoOf who (now (name .entry))) ⌝ }
+    ensures { λ r. ⌜ r ≡ seenUsed d (now (b .entry)) (now (names .entry)) (now (last .entry)) q (whoOf who (now (name .entry))) ⌝ }
 {
     if !rows::district_used(b, d, q.warehouse, q.district) {
         return nothing_seen(9);
@@ -166,15 +132,16 @@ fn used(b: &[i64], names: &[u8], d: Dims, q: OrderStatus, who: Selection, name: 
         return nothing_seen(9);
     }
     let found = customer_of(names, d, q.warehouse, q.district, who, name);
-    let number = number_of(found);
-    let s = orders_scanned(b, d, q.warehouse, q.district, number);
-    if !s.fine {
-        return nothing_seen(9);
-    }
     let Found::Customer(c) = found else {
         return nothing_seen(10);
     };
-    let order = s.last;
+    if !last_orders::fits(last, b, d, q.warehouse, q.district) {
+        return nothing_seen(13);
+    }
+    let order = last_orders::last_of(last, d, q.warehouse, q.district, c);
+    if !found_ok(b, d, q.warehouse, q.district, order) {
+        return nothing_seen(13);
+    }
     let refusal = cells::refused(0);
     Seen {
         refusal,
@@ -183,14 +150,22 @@ fn used(b: &[i64], names: &[u8], d: Dims, q: OrderStatus, who: Selection, name: 
     }
 }
 
-// The first refusal of what request, rows and names decide, the customer and its last order.
-fn seen_in(b: &[i64], names: &[u8], d: Dims, q: OrderStatus, who: Selection, name: &[u8]) -> Seen
+// The first refusal of what request, rows, names and last orders decide, the customer and its last order.
+fn seen_in(
+    b: &[i64],
+    names: &[u8],
+    last: &[i64],
+    d: Dims,
+    q: OrderStatus,
+    who: Selection,
+    name: &[u8],
+) -> Seen
     requires { ⌜ Shaped d (now b) (length (now names)) ⌝ }
-    ensures { λ r. ⌜ r ≡ seenIn d (now (b .entry)) (now (names .entry)) q (whoOf who (now (name .entry))) ⌝ }
+    ensures { λ r. ⌜ r ≡ seenIn d (now (b .entry)) (now (names .entry)) (now (last .entry)) q (whoOf who (now (name .entry))) ⌝ }
 {
     let refusal = asked(d, q, who, name);
     if refusal.number == 0 {
-        return used(b, names, d, q, who, name);
+        return used(b, names, last, d, q, who, name);
     }
     Seen {
         refusal,
@@ -250,14 +225,22 @@ fn turned_away(refusal: Refusal) -> Shown
     Shown { outcome, part }
 }
 
-// Order-Status, by customer number or by last name: the outcome, and where the shown lines are in the book; the district's orders are scanned once.
-pub fn status_shown(b: &[i64], names: &[u8], q: OrderStatus, who: Selection, name: &[u8]) -> Shown
-    ensures { λ r. ⌜ ShownCall (now (b .entry)) (now (names .entry)) q (whoOf who (now (name .entry))) r ⌝ }
+// Order-Status, by customer number or by last name: the outcome, and where the shown lines are in the book; the order is the one that the last
+// orders name.
+pub fn status_shown(
+    b: &[i64],
+    names: &[u8],
+    last: &[i64],
+    q: OrderStatus,
+    who: Selection,
+    name: &[u8],
+) -> Shown
+    ensures { λ r. ⌜ ShownCall (now (b .entry)) (now (names .entry)) (now (last .entry)) q (whoOf who (now (name .entry))) r ⌝ }
 {
     let Head::Book(d) = layout::head_of(b, names) else {
         return turned_away(cells::refused(2));
     };
-    let seen = seen_in(b, names, d, q, who, name);
+    let seen = seen_in(b, names, last, d, q, who, name);
     let refusal = seen.refusal;
     if refusal.number == 0 {
         let figures = figures_of(b, d, q, seen.customer, seen.order);
@@ -284,14 +267,15 @@ fn lines_in<'a>(b: &'a [i64], part: Part) -> &'a [i64]
 pub fn order_status<'a>(
     b: &'a [i64],
     names: &[u8],
+    last: &[i64],
     q: OrderStatus,
     who: Selection,
     name: &[u8],
 ) -> StatusAnswer<'a>
-    ensures { λ r. ⌜ StatusCall (now (b .entry)) (now (names .entry)) q (whoOf who (now (name .entry)))
+    ensures { λ r. ⌜ StatusCall (now (b .entry)) (now (names .entry)) (now (last .entry)) q (whoOf who (now (name .entry)))
         (r .outcome) (now (r .lines)) (b .entry .ptr) (r .lines .ptr) ⌝ }
 {
-    let s = status_shown(b, names, q, who, name);
+    let s = status_shown(b, names, last, q, who, name);
     let lines = lines_in(b, s.part);
     let outcome = s.outcome;
     StatusAnswer { outcome, lines }

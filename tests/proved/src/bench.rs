@@ -170,7 +170,16 @@ fn book(orders: usize) -> Lent {
         }
     }
     nums.resize(nums.len() + 7 * H, 0);
-    Lent { nums, names: names() }
+    Lent { nums, names: names(), last: last_orders(orders) }
+}
+
+/// The last orders of every district's customers, as `order` enters them.
+fn last_orders(orders: usize) -> Vec<i64> {
+    let mut district = vec![0; C];
+    for o in 0..orders {
+        district[number(o, C) as usize - 1] = o as i64 + 1;
+    }
+    district.repeat(10 * W)
 }
 
 fn order(nums: &mut Vec<i64>, o: usize, orders: usize) {

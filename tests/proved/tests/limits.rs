@@ -34,9 +34,13 @@ fn history_slots_up_to_1_000_000() {
     both_sides([1, 1, 1, 1, 1_000_000], [1, 1, 1, 1, 1_000_001]);
 }
 
-/// Committed at the limit; refused by 2 where a length is one off, and above the limit.
+/// Committed at the limit; refused by 2 where a length is one off, and above the limit; New-Order and Order-Status by 13 where that of the last
+/// orders is.
 fn both_sides(limit: Head, above: Head) {
     committed(limit, &book(limit));
+    for last in [-1, 1] {
+        refused_by_13(limit, &off_last(book(limit), last));
+    }
     for numbers in [-1, 1] {
         refused(limit, &off(book(limit), numbers, 0));
     }
@@ -71,6 +75,15 @@ fn refused(head: Head, lent: &Lent) {
     assert_eq!(answers(&mut ProvedEngine, &mut left, head), said, "the proved library, {head:?}, {lengths:?}");
     assert_eq!(answers(&mut SecondEngine, &mut left, head), said, "the second engine, {head:?}, {lengths:?}");
     assert!(left == *lent, "{head:?}, {lengths:?}: changed by a refused call");
+}
+
+/// New-Order and Order-Status are refused by 13, the other calls are not, and the last orders are left.
+fn refused_by_13(head: Head, lent: &Lent) {
+    let said = ["OPEN 0", "N 13 0", &format!("P 0 {} -500", head[1]), "D 0 10 1023 0 0 0 0 0 0 0 0 0 0", "S 13 0", "L 0 0"];
+    let (mut proved, mut second) = (lent.clone(), lent.clone());
+    assert_eq!(answers(&mut ProvedEngine, &mut proved, head), said, "the proved library, {head:?}, {}", lent.last.len());
+    assert_eq!(answers(&mut SecondEngine, &mut second, head), said, "the second engine, {head:?}, {}", lent.last.len());
+    assert!(proved == second && proved.last == lent.last, "{head:?}: the books differ");
 }
 
 /// Opening and one call of each kind, on the last warehouse, district, customer and item.
@@ -116,7 +129,13 @@ fn book(head: Head) -> Lent {
     nums.extend([250].repeat(i));
     nums.extend([20, 0, 0, 0].repeat(w * i));
     nums.resize(nums.len() + 81 * 10 * w * o + 7 * h, 0);
-    Lent { nums, names: vec![b'A'; 32 * 10 * w * c] }
+    Lent { nums, names: vec![b'A'; 32 * 10 * w * c], last: vec![0; 10 * w * c] }
+}
+
+/// The book with that many more last orders.
+fn off_last(mut lent: Lent, numbers: isize) -> Lent {
+    lent.last.resize(lent.last.len().wrapping_add_signed(numbers), 0);
+    lent
 }
 
 /// The book with that many more numbers and name bytes.

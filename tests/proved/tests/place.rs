@@ -4,6 +4,7 @@
 use proved::{status_out, ProvedEngine};
 use second::layout::{order, order_line, Layout};
 use second::lists::books::{self, Book};
+use second::lists::last;
 use second::lists::random::Random;
 use second::lists::requests::Asker;
 use second::replay::{print, Lent, SecondEngine};
@@ -38,15 +39,20 @@ fn the_shown_part_stands_where_the_layout_says() {
     assert!([shown, no_order, refused].concat().iter().all(|&times| times >= OFTEN));
 }
 
-/// A fresh book, one in use, one with rows damaged, or one with a damaged head.
+/// A fresh book, one in use, one with rows damaged, one with last orders of others, or one with a damaged head.
 fn random_book(random: &mut Random) -> Book {
     let layout = books::dimensions(random);
-    match random.weighted(&[55, 30, 10, 5]) {
+    match random.weighted(&[50, 28, 9, 9, 4]) {
         0 => books::fresh(random, layout),
         1 => books::in_use(random, layout),
         2 => {
             let mut book = books::in_use(random, layout);
             books::damage(random, &mut book, 3);
+            book
+        }
+        3 => {
+            let mut book = books::in_use(random, layout);
+            last::damage(random, &mut book);
             book
         }
         _ => {
@@ -75,7 +81,7 @@ fn ask(random: &mut Random, book: &Book, seen: &mut Seen) {
 
 /// One status: every number that the proved library leaves is the one that the second engine and the layout give.
 fn compare(lent: &Lent, request: &OrderStatus, seen: &mut Seen) {
-    let answer = order_status(&lent.nums, &lent.names, request);
+    let answer = order_status(&lent.nums, &lent.names, &lent.last, request);
     let by_name = usize::from(matches!(request.who, Who::LastName(_)));
     let (out, balance) = match answer.outcome {
         Outcome::Refused(refusal) => {

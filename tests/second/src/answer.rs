@@ -64,7 +64,7 @@ pub struct DeliveryAnswer {
     pub orders: [u64; 10],
 }
 
-/// Order number, entry date and carrier are 0 where the customer has no order.
+/// Order number, entry date and carrier are 0 where the slice of last orders names none.
 #[derive(Debug, Clone, Copy, PartialEq, Eq)]
 pub struct OrderStatusFigures {
     pub customer: u64,

@@ -20,6 +20,8 @@ const PRICES: [i64; 5] = [100, 250, 999, 0, 1_234];
 pub struct Book {
     pub nums: Vec<i64>,
     pub names: Vec<u8>,
+    /// The last order of each customer.
+    pub last: Vec<i64>,
 }
 
 impl Book {
@@ -44,7 +46,8 @@ impl Book {
             name[16..16 + first.len()].copy_from_slice(first);
             names.extend_from_slice(&name);
         }
-        Book { nums, names }
+        let last = vec![0; LAYOUT.last_orders()];
+        Book { nums, names, last }
     }
 
     /// Carries out one line, its byte 10 with it, and gives the answer's line.
@@ -58,9 +61,9 @@ impl Book {
     }
 
     fn carry_out(&mut self, request: &Request) -> String {
-        let (nums, names) = (&mut self.nums, &self.names);
+        let (nums, names, last) = (&mut self.nums, &self.names, &mut self.last);
         match request {
-            Request::NewOrder(r) => match crate::new_order(nums, names, r) {
+            Request::NewOrder(r) => match crate::new_order(nums, names, last, r) {
                 Outcome::Committed(f) => format!("N\t0\t{}\t{}", f.order, f.total),
                 Outcome::Refused(refusal) => refused('N', refusal),
             },
@@ -69,7 +72,7 @@ impl Book {
                 Outcome::Refused(refusal) => refused('P', refusal),
             },
             Request::Delivery(r) => delivery_line(&crate::delivery(nums, names, r)),
-            Request::OrderStatus(r) => status_line(&crate::order_status(nums, names, r)),
+            Request::OrderStatus(r) => status_line(&crate::order_status(nums, names, last, r)),
             Request::StockLevel(r) => match crate::stock_level(nums, names, r) {
                 Outcome::Committed(f) => format!("L\t0\t{}", f.low_stock),
                 Outcome::Refused(refusal) => refused('L', refusal),

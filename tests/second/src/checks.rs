@@ -94,6 +94,20 @@ pub fn orders_in_range(layout: &Layout, orders: &[i64]) -> bool {
         .all(|row| rows::order_in_range(layout, row))
 }
 
+/// Check 13 for the slice of last orders: its length, then all numbers of the district,
+/// whose row is in range, each from 0 to next - 1.
+pub fn last_orders(
+    nums: &[i64],
+    last: &[i64],
+    layout: &Layout,
+    (warehouse, district): (usize, usize),
+) -> Result<(), Refusal> {
+    demand(last.len() == layout.last_orders(), 13)?;
+    let most = next_order(nums, layout, (warehouse, district)) as i64 - 1;
+    let numbers = &last[layout.last_orders_of(warehouse, district)];
+    demand(rows::all_up_to(numbers, most), 13)
+}
+
 /// The next order number of a district whose row is in range.
 pub fn next_order(nums: &[i64], layout: &Layout, (warehouse, district): (usize, usize)) -> usize {
     nums[layout.district(warehouse, district)][district::NEXT_ORDER] as usize

@@ -83,12 +83,14 @@ pub struct Layout {
 impl Layout {
     /// Reads the head; nothing where check 2 refuses the book.
     pub fn of(nums: &[i64], names: &[u8]) -> Option<Layout> {
-        let layout = Layout::from_head(nums.get(..HEAD)?)?;
+        let layout = Layout::from_head(nums)?;
         let fits = nums.len() == layout.numbers() && names.len() == layout.name_bytes();
         fits.then_some(layout)
     }
 
-    fn from_head(head: &[i64]) -> Option<Layout> {
+    /// The dimensions that the first six numbers say; nothing where one is out of range.
+    pub fn from_head(nums: &[i64]) -> Option<Layout> {
+        let head = nums.get(..HEAD)?;
         let history_count = (0, head[4]);
         let ranges = [
             ranges::WAREHOUSES,
@@ -117,6 +119,11 @@ impl Layout {
     /// How many name bytes a book of these dimensions has.
     pub fn name_bytes(&self) -> usize {
         self.warehouses * DISTRICTS * self.customers * NAMES_WIDTH
+    }
+
+    /// How many numbers the slice of last orders has: one for each customer.
+    pub fn last_orders(&self) -> usize {
+        self.warehouses * DISTRICTS * self.customers
     }
 
     fn warehouse_start(&self) -> usize {
@@ -180,6 +187,20 @@ impl Layout {
     pub fn names_of(&self, warehouse: usize, district: usize) -> Range<usize> {
         let before = self.districts_before(warehouse, district);
         row(0, before, self.customers * NAMES_WIDTH)
+    }
+
+    /// The numbers of all customers of one district, in the lent last orders.
+    pub fn last_orders_of(&self, warehouse: usize, district: usize) -> Range<usize> {
+        row(
+            0,
+            self.districts_before(warehouse, district),
+            self.customers,
+        )
+    }
+
+    /// The place of a customer's number, in the lent last orders.
+    pub fn last_order(&self, warehouse: usize, district: usize, customer: usize) -> usize {
+        self.last_orders_of(warehouse, district).start + customer - 1
     }
 
     /// The place of an item's price.

@@ -4,6 +4,9 @@
 //! takes both, judges the book and the request in document 01's checking order, and
 //! answers either its figures or a refusal with number and detail. A refused call
 //! changes nothing. Identifiers use TPC-C's words; document 01's depot is `warehouse`.
+//!
+//! A further lent slice (R-1 of document 02) has the last order number of each customer:
+//! New-Order writes it, Order-Status reads it, no other call takes it.
 
 pub mod answer;
 pub mod book_program;

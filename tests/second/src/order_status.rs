@@ -7,13 +7,20 @@ use crate::request::OrderStatus;
 use crate::rows;
 use crate::who::{self, Found};
 
+/// What is shown: the customer, and the number of the order, 0 for none.
+struct Shown {
+    customer: usize,
+    order: usize,
+}
+
 pub fn order_status<'a>(
     nums: &'a [i64],
     names: &[u8],
+    last: &[i64],
     request: &OrderStatus,
 ) -> OrderStatusAnswer<'a> {
-    match judge(nums, names, request) {
-        Ok((layout, customer)) => status(nums, &layout, request, customer),
+    match judge(nums, names, last, request) {
+        Ok((layout, shown)) => status(nums, &layout, request, &shown),
         Err(refusal) => OrderStatusAnswer {
             outcome: Outcome::Refused(refusal),
             lines: &[],
@@ -21,8 +28,13 @@ pub fn order_status<'a>(
     }
 }
 
-/// All checks in order; gives the customer meant.
-fn judge(nums: &[i64], names: &[u8], request: &OrderStatus) -> Result<(Layout, usize), Refusal> {
+/// All checks in order; gives the customer meant and the order that the slice names.
+fn judge(
+    nums: &[i64],
+    names: &[u8],
+    last: &[i64],
+    request: &OrderStatus,
+) -> Result<(Layout, Shown), Refusal> {
     let layout = checks::layout(nums, names)?;
     checks::warehouse(&layout, request.warehouse)?;
     checks::district(request.district)?;
@@ -34,45 +46,46 @@ fn judge(nums: &[i64], names: &[u8], request: &OrderStatus) -> Result<(Layout, u
     else {
         return Err(Refusal::plain(10));
     };
-    Ok((layout, customer))
+    checks::last_orders(nums, last, &layout, (warehouse, district))?;
+    let order = last[layout.last_order(warehouse, district, customer)] as usize;
+    let in_range = |order| rows::order_in_range(&layout, order);
+    demand(
+        order == 0 || in_range(&nums[layout.order(warehouse, district, order)]),
+        13,
+    )?;
+    Ok((layout, Shown { customer, order }))
 }
 
-/// Check 9: district, the customer or, by name, all of them, and the orders before next.
+/// Check 9: district, and the customer or, by name, all of them.
 fn used_rows_in_range(nums: &[i64], names: &[u8], layout: &Layout, request: &OrderStatus) -> bool {
     let place = place_of(request);
     rows::district_in_range(layout, &nums[layout.district(place.0, place.1)])
         && checks::customers_in_range(nums, names, layout, place, &request.who)
-        && checks::orders_in_range(layout, checks::orders_from(nums, layout, place, 1))
 }
 
 fn place_of(request: &OrderStatus) -> (usize, usize) {
     (request.warehouse as usize, request.district as usize)
 }
 
-/// The customer's order with the largest number, whatever its date.
+/// The order as it stands, whoever its customer is.
 fn status<'a>(
     nums: &'a [i64],
     layout: &Layout,
     request: &OrderStatus,
-    customer: usize,
+    shown: &Shown,
 ) -> OrderStatusAnswer<'a> {
     let (warehouse, district) = place_of(request);
-    let row = &nums[layout.customer(warehouse, district, customer)];
+    let row = &nums[layout.customer(warehouse, district, shown.customer)];
     let mut figures = OrderStatusFigures {
-        customer: customer as u64,
+        customer: shown.customer as u64,
         balance: row[customer::BALANCE],
-        order: 0,
+        order: shown.order as u64,
         entry_date: 0,
         carrier: 0,
     };
     let mut lines: &[i64] = &[];
-    let orders = checks::orders_from(nums, layout, (warehouse, district), 1);
-    let last = orders
-        .chunks_exact(order::WIDTH)
-        .rposition(|slot| slot[order::CUSTOMER] == customer as i64);
-    if let Some(place) = last {
-        let slot = &orders[place * order::WIDTH..(place + 1) * order::WIDTH];
-        figures.order = place as u64 + 1;
+    if shown.order > 0 {
+        let slot = &nums[layout.order(warehouse, district, shown.order)];
         figures.entry_date = slot[order::ENTRY_DATE] as u64;
         figures.carrier = slot[order::CARRIER] as u64;
         lines = rows::lines_in_use(slot);

@@ -72,6 +72,17 @@ pub fn lines_in_use(order: &[i64]) -> &[i64] {
     &order[order::LINES..order::LINES + count * order_line::WIDTH]
 }
 
+/// Are all these numbers from 0 to `most`, which is not negative?
+///
+/// A number is if neither it nor `most` less it has a sign. The signs are gathered without a
+/// branch, two numbers at a time; a comparison of 64 bits took nearly twice as long.
+pub fn all_up_to(numbers: &[i64], most: i64) -> bool {
+    let signs = numbers
+        .iter()
+        .fold(0, |signs, &n| signs | n | most.wrapping_sub(n));
+    signs >= 0
+}
+
 /// Are one customer's 32 name bytes in range?
 pub fn name_in_range(names: &[u8]) -> bool {
     names[0] != b' ' && names.iter().all(|byte| (32..=126).contains(byte))

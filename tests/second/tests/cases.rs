@@ -58,8 +58,8 @@ fn listing_through_the_program() {
 
 #[test]
 fn listing_through_replay() {
-    let Book { nums, names } = Book::built_in();
-    let mut text = lists::lend(&Lent { nums, names });
+    let Book { nums, names, last } = Book::built_in();
+    let mut text = lists::lend(&Lent { nums, names, last });
     text.push_str(
         "OPEN\nN 1 1 1 100 2 1 1 10 2 1 3\nN 1 1 1 101 2 1 1 1 4 1 1\nN 1 1 2 102 1 1 1 1\n\
          D 1 3 200\nP 1 1 1 1 =414c4d 201 500\nS 1 1 #1\nL 1 1 18\n",
@@ -99,6 +99,8 @@ fn book_after_the_listing() {
     expected[264..275].copy_from_slice(&second);
     expected[3_423..3_430].copy_from_slice(&[2, 1, 1, 1, 1, 201, 500]);
     assert!(book.nums == expected);
+    assert_eq!(book.last[..2], [1, 2]);
+    assert_eq!(book.last[2..], [0; 18]);
     assert!(book.names == Book::built_in().names);
 }
 
@@ -144,7 +146,8 @@ fn opening_writes_nothing_and_ignores_slots() {
 fn item_named_twice_is_taken_twice_in_turn() {
     let mut lent = fresh();
     let lines = [line(1, 1, 10), line(1, 1, 1)];
-    let outcome = new_order(&mut lent.nums, &lent.names, &new_order_of(&lines));
+    let Lent { nums, names, last } = &mut lent;
+    let outcome = new_order(nums, names, last, &new_order_of(&lines));
     let figures = NewOrderFigures {
         order: 1,
         total: 1_138, // 1,100 x 0.9 x 1.15 = 1,138.5
@@ -212,7 +215,8 @@ fn second_of_three_equal_names() {
     ] {
         let names = names_of(firsts);
         let request = status_of(named("ALM"));
-        let Outcome::Committed(f) = order_status(&book.nums, &names, &request).outcome else {
+        let status = order_status(&book.nums, &names, &[0; 30], &request);
+        let Outcome::Committed(f) = status.outcome else {
             panic!("refused");
         };
         assert_eq!(f.customer, expected, "{firsts:?}");
@@ -318,8 +322,9 @@ fn balance_past_its_range_is_written_and_refused_next() {
 #[test]
 fn order_status_without_an_order() {
     let mut lent = in_use();
-    lent.nums[order(1, 1, 2)] = 1;
-    let answer = order_status(&lent.nums, &lent.names, &status_of(Who::Number(2)));
+    lent.last[last(1, 1, 2)] = 0;
+    let request = status_of(Who::Number(2));
+    let answer = order_status(&lent.nums, &lent.names, &lent.last, &request);
     let figures = OrderStatusFigures {
         customer: 2,
         balance: 0,
@@ -336,7 +341,9 @@ fn order_status_takes_the_number_not_the_date() {
     let mut lent = in_use();
     lent.nums[order(1, 1, 2)] = 1;
     lent.nums[order(1, 1, 2) + 1] = 7; // clocks go back
-    let answer = order_status(&lent.nums, &lent.names, &status_of(Who::Number(1)));
+    lent.last[last(1, 1, 1)] = 2;
+    let request = status_of(Who::Number(1));
+    let answer = order_status(&lent.nums, &lent.names, &lent.last, &request);
     let Outcome::Committed(f) = answer.outcome else {
         panic!("refused");
     };
@@ -344,17 +351,6 @@ fn order_status_takes_the_number_not_the_date() {
     let start = order(1, 1, 2) + 6;
     let part = &lent.nums[start..start + 10];
     assert!(std::ptr::eq(answer.lines, part), "a part of the lent book");
-}
-
-#[test]
-fn order_status_shows_no_order_from_next_on() {
-    let mut lent = in_use();
-    lent.nums[district(1, 1) + 2] = 2;
-    let answer = order_status(&lent.nums, &lent.names, &status_of(Who::Number(2)));
-    let Outcome::Committed(f) = answer.outcome else {
-        panic!("refused");
-    };
-    assert_eq!(f.order, 0);
 }
 
 #[test]
@@ -387,7 +383,8 @@ fn one_item_an_order(next: i64) -> Lent {
     }
     nums.extend(vec![0; 9 * 24 * 81 + 7]);
     let names = b"A                               ".repeat(10);
-    Lent { nums, names }
+    let last = Vec::new(); // Stock-Level does not take them
+    Lent { nums, names, last }
 }
 
 #[test]
@@ -421,7 +418,8 @@ fn refused_order_does_not_use_up_its_number() {
     let bad = Request::NewOrder(new_order_of(&[line(1, 1, 1), line(3, 1, 1)]));
     assert_eq!(call(&mut lent, &bad), (12, 2));
     let good = new_order_of(&[line(1, 1, 1)]);
-    let Outcome::Committed(f) = new_order(&mut lent.nums, &lent.names, &good) else {
+    let Lent { nums, names, last } = &mut lent;
+    let Outcome::Committed(f) = new_order(nums, names, last, &good) else {
         panic!("refused");
     };
     assert_eq!(f.order, 1);

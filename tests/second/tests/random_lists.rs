@@ -5,9 +5,10 @@ mod common;
 
 use common::ends;
 use second::layout::Layout;
+use second::lists::last::scanned;
 use second::lists::{self, stats};
 use second::replay::command::{parse, Command};
-use second::replay::{Engine, Lent, SecondEngine};
+use second::replay::{Engine, Lent, SecondEngine, Slices};
 use second::who::{self, Found};
 use second::*;
 use std::collections::HashMap;
@@ -21,16 +22,15 @@ fn call(lent: &mut Lent, request: &Request) -> u64 {
 fn no_panic_and_refused_changes_nothing() {
     let mut engine = SecondEngine;
     for number in 0..3_000 {
-        let mut lent = Lent::default();
+        let mut slices = Slices::default();
         for line in lists::list(7, number).lines() {
             match parse(line.as_bytes()) {
-                Command::Nums(nums) => lent.nums = nums,
-                Command::Names(names) => lent.names = names,
+                Command::Lend(slice) => slices.set(slice),
                 Command::Open => {
-                    ends(engine.open(&lent));
+                    ends(engine.open(&slices.lent));
                 }
                 Command::Call(request) => {
-                    call(&mut lent, &request);
+                    call(&mut slices.lent, &request);
                 }
                 Command::Read(line) => read_back(&line),
                 Command::Write(cap, request) => write_back(cap, &request),
@@ -73,10 +73,10 @@ fn every_answer_is_reached() {
     };
     let answers: [(&str, &[u64]); 8] = [
         ("OPEN", &[0, 2, 3]),
-        ("N", &[0, 2, 4, 5, 6, 7, 8, 9, 11, 12]),
+        ("N", &[0, 2, 4, 5, 6, 7, 8, 9, 11, 12, 13]),
         ("P", &[0, 2, 4, 5, 6, 7, 8, 9, 10, 11]),
         ("D", &[0, 2, 4, 7, 8, 9]),
-        ("S", &[0, 2, 4, 5, 6, 9, 10]),
+        ("S", &[0, 2, 4, 5, 6, 9, 10, 13]),
         ("L", &[0, 2, 4, 5, 8, 9]),
         ("READ", &[0, 1]),
         ("WRITE", &[0, 1]),
@@ -87,12 +87,58 @@ fn every_answer_is_reached() {
             assert!(times >= 25, "{word} {number}: {times} times");
         }
     }
-    let known = |(word, number, _): &(String, u64, &str)| {
+    let known = |(word, number, _): &(String, u64, String)| {
         answers
             .iter()
             .any(|(w, numbers)| w == word && numbers.contains(number))
     };
     assert!(counts.keys().all(known), "an answer that no call gives");
+}
+
+/// Every way to meet 13, each with what stands beside it in checking order, and what calls have to pass by.
+#[test]
+fn every_kind_of_last_orders_is_reached() {
+    let counts = stats::count(11, 2_000);
+    let slice_faults = [
+        "no slice",
+        "one short",
+        "one long",
+        "double",
+        "another length",
+        "own number negative",
+        "own number next",
+        "own number above next",
+        "another's number negative",
+        "another's number next",
+        "another's number above next",
+    ];
+    let reached = |word: &str, number: u64, kind: &str| -> u64 {
+        let same = counts
+            .iter()
+            .filter(|((w, n, k), _)| w == word && *n == number && k.contains(kind));
+        same.map(|(_, times)| times).sum()
+    };
+    for fault in slice_faults {
+        for word in ["N", "S"] {
+            let times = reached(word, 13, fault);
+            assert!(times >= 10, "{word} 13, {fault}: {times} times");
+        }
+    }
+    for (word, number, kind) in [
+        ("N", 9, "and 13"),
+        ("N", 13, "before 11"),
+        ("N", 13, "before 12"),
+        ("N", 0, "wrong elsewhere"),
+        ("S", 9, "and 13"),
+        ("S", 10, "and 13"),
+        ("S", 13, "the order found"),
+        ("S", 0, "another's order"),
+        ("S", 0, "a damaged one not shown"),
+        ("S", 0, "wrong elsewhere"),
+    ] {
+        let times = reached(word, number, kind);
+        assert!(times >= 25, "{word} {number}, {kind}: {times} times");
+    }
 }
 
 #[test]
@@ -105,6 +151,8 @@ fn lists_are_the_same_for_the_same_seed() {
         let mut lines = text.lines();
         assert!(lines.next().unwrap().starts_with("SLICE nums"));
         assert!(lines.next().unwrap().starts_with("BYTES names "));
+        let sets_last = text.lines().any(|line| line.starts_with("SLICE last"));
+        assert_eq!(sets_last, number >= 60);
     }
 }
 
@@ -218,6 +266,19 @@ impl Tally {
         }
     }
 
+    /// Each number is the largest of the customer's orders, in the tally and in the book.
+    fn check_last_orders(&self, lent: &Lent) {
+        let mut last = vec![0; self.layout.last_orders()];
+        for (&(w, d), orders) in &self.orders {
+            for (number, &(customer, _)) in (1..).zip(orders) {
+                let place = (w as usize, d as usize, customer as usize);
+                last[self.layout.last_order(place.0, place.1, place.2)] = number;
+            }
+        }
+        assert_eq!(lent.last, last);
+        assert_eq!(lent.last, scanned(&lent.nums, &self.layout));
+    }
+
     fn check_district(&self, nums: &[i64], w: usize, d: usize) {
         let layout = &self.layout;
         let place = (w as u64, d as u64);
@@ -246,33 +307,46 @@ impl Tally {
     }
 }
 
-/// The claim after each call of lists from opened books; 2, 3 and 9 are never answered.
+/// The claim after each call of lists from opened books; 2, 3 and 9 are never answered. With last orders that were all 0
+/// at opening, 13 is not either, and they are those of the tally and of a scan.
 #[test]
 fn opened_lists_keep_to_the_tally() {
-    let mut opened = 0;
+    let mut counts = [0; 2];
     for number in 0..1_200 {
         let text = lists::list(23, number);
-        let mut lent = Lent::default();
+        let mut slices = Slices::default();
         let mut tally = None;
+        let mut zeros = false;
         for line in text.lines() {
+            let lent = &mut slices.lent;
             match (parse(line.as_bytes()), &mut tally) {
-                (Command::Nums(nums), _) => lent.nums = nums,
-                (Command::Names(names), _) => lent.names = names,
+                (Command::Lend(slice), _) => {
+                    slices.set(slice);
+                    zeros = false;
+                }
                 (Command::Open, None) if ends(open(&lent.nums, &lent.names)).0 == 0 => {
-                    tally = Some(Tally::of(&lent));
-                    opened += 1;
+                    let started = Tally::of(lent);
+                    zeros = lent.last == vec![0; started.layout.last_orders()];
+                    tally = Some(started);
+                    counts[usize::from(zeros)] += 1;
                 }
                 (Command::Call(request), Some(tally)) => {
-                    let answer = call(&mut lent, &request);
+                    let answer = call(lent, &request);
                     assert!(![2, 3, 9].contains(&answer));
                     if answer == 0 {
                         tally.add(&request);
                     }
-                    tally.check(&lent);
+                    tally.check(lent);
+                    if zeros {
+                        assert_ne!(answer, 13);
+                        tally.check_last_orders(lent);
+                    }
                 }
                 _ => {}
             }
         }
     }
-    assert!(opened > 300, "{opened} opened books");
+    let [wrong, right] = counts;
+    assert!(right > 300, "{right} opened books");
+    assert!(wrong > 5, "{wrong} with last orders not all 0");
 }

@@ -25,6 +25,7 @@ fn put_fault(case: &mut Case, number: u64) {
     match (&case.request, number) {
         (_, 2) => nums.push(0),
         (_, 9) => nums[district(1, 1)] = 10_000,
+        (_, 13) => case.lent.last[last(1, 1, 2)] = -1,
         (Request::NewOrder(_), 11) => nums[district(1, 1) + 2] = 4,
         (Request::Payment(_), 11) => nums[5] = 2,
         _ => put_request_fault(&mut case.request, number),
@@ -66,10 +67,10 @@ fn calls() -> [(Request, Vec<u64>); 5] {
     let payment = Request::Payment(payment_by(Who::Number(1)));
     let order_status = Request::OrderStatus(status_of(Who::Number(1)));
     [
-        (new_order, vec![2, 4, 5, 6, 7, 8, 9, 11, 12]),
+        (new_order, vec![2, 4, 5, 6, 7, 8, 9, 13, 11, 12]),
         (payment, vec![2, 4, 5, 6, 7, 8, 9, 10, 11]),
         (Request::Delivery(delivery_at(1)), vec![2, 4, 7, 8, 9]),
-        (order_status, vec![2, 4, 5, 6, 9, 10]),
+        (order_status, vec![2, 4, 5, 6, 9, 10, 13]),
         (
             Request::StockLevel(stock_level_below(15)),
             vec![2, 4, 5, 8, 9],
@@ -352,7 +353,6 @@ fn rows_used_by_order_status() {
     let mut used = vec![None; NUMBERS];
     use_district(&mut used, 1, 1);
     use_customer(&mut used, 1, 1, 2);
-    use_orders(&mut used, 1, 1);
     judge_every_number(&Request::OrderStatus(status_of(Who::Number(2))), &used);
     use_customer(&mut used, 1, 1, 1);
     for name in ["ALM", "NOBODY"] {

@@ -26,14 +26,17 @@ fn fingerprints() {
     let lent = Lent {
         nums: vec![1, 2, 3],
         names: b"ALM".to_vec(),
+        last: vec![0, 1],
     };
-    assert_eq!(lent.fingerprint(), of("nums=1,2,3\nnames=414c4d\n"));
-    assert_eq!(Lent::default().fingerprint(), of("nums=\nnames=\n"));
+    let text = "nums=1,2,3\nnames=414c4d\nlast=0,1\n";
+    assert_eq!(lent.fingerprint(), of(text));
+    assert_eq!(Lent::default().fingerprint(), of("nums=\nnames=\nlast=\n"));
     let lent = Lent {
         nums: vec![-1, i64::MIN, 10],
         names: vec![0, 255],
+        last: vec![-1],
     };
-    let text = "nums=-1,-9223372036854775808,10\nnames=00ff\n";
+    let text = "nums=-1,-9223372036854775808,10\nnames=00ff\nlast=-1\n";
     assert_eq!(lent.fingerprint(), of(text));
 }
 
@@ -45,14 +48,65 @@ fn fingerprints_follow_the_slices() {
     let open = |replay: &mut Replay<_>, command: &str| {
         assert_eq!(replay.step(command.as_bytes()), None);
         let answer = replay.step(b"OPEN").unwrap();
-        assert_eq!(answer, format!("OPEN 2 0 | {}", replay.lent.fingerprint()));
+        assert_eq!(
+            answer,
+            format!("OPEN 2 0 | {}", replay.slices.lent.fingerprint())
+        );
         answer
     };
     let first = open(&mut replay, "SLICE nums 1 2 3");
     let second = open(&mut replay, "BYTES names 414c4d");
     let third = open(&mut replay, "SLICE nums 1 2 3");
+    let fourth = open(&mut replay, "SLICE last 0");
     assert_ne!(first, second);
     assert_eq!(second, third);
+    assert_ne!(third, fourth);
+}
+
+/// Last orders that no command has set are made anew at each head in range; others stay as they are.
+#[test]
+fn last_orders_made_anew() {
+    let mut engine = SecondEngine;
+    let mut replay = Replay::new(&mut engine);
+    let mut after = |command: &str| {
+        let answer = replay.step(command.as_bytes());
+        (answer, replay.slices.lent.last.clone())
+    };
+    let bad = Some("BAD SLICE".to_string());
+    assert_eq!(after("BYTES names 41"), (None, vec![]));
+    assert_eq!(after("SLICE nums 1 2 1 1 1"), (None, vec![])); // five numbers
+    assert_eq!(after("SLICE nums 0 2 1 1 1 0"), (None, vec![]));
+    assert_eq!(after("SLICE nums 1 2 1 1 1 2"), (None, vec![])); // history count above H
+    assert_eq!(after("SLICE nums 1 2 1 1 1 0"), (None, vec![0; 20]));
+    assert_eq!(after("SLICE nums 2 3 1 1 1 1 77"), (None, vec![0; 60]));
+    assert_eq!(after("SLICE nums 21 1 1 1 1 0"), (None, vec![0; 60]));
+    assert_eq!(after("SLICE last x"), (bad.clone(), vec![0; 60]));
+    assert_eq!(after("SLICE nums 1 1 1 1 1 0"), (None, vec![0; 10]));
+    assert_eq!(after("SLICE nums 1 2 1 1 1 x"), (bad, vec![0; 10]));
+    assert_eq!(after("SLICE last 1 -2"), (None, vec![1, -2]));
+    assert_eq!(after("SLICE nums 1 1 1 1 1 0"), (None, vec![1, -2]));
+    assert_eq!(after("SLICE last"), (None, vec![]));
+    assert_eq!(after("SLICE nums 1 1 1 1 1 0"), (None, vec![]));
+}
+
+/// What a call leaves in last orders that no command has set stays until the next book.
+#[test]
+fn last_orders_of_calls() {
+    let mut engine = SecondEngine;
+    let mut replay = Replay::new(&mut engine);
+    let lend = second::lists::lend(&fresh());
+    for command in lend.lines().filter(|line| !line.starts_with("SLICE last")) {
+        replay.step(command.as_bytes());
+    }
+    let answer = replay.step(b"N 2 3 2 100 1 1 1 1").unwrap();
+    assert!(answer.starts_with("N 0 1 115 | "));
+    let mut expected = vec![0; LAST_ORDERS];
+    expected[last(2, 3, 2)] = 1;
+    assert_eq!(replay.slices.lent.last, expected);
+    replay.step(b"SLICE nums 1 1 1 1 1");
+    assert_eq!(replay.slices.lent.last, expected);
+    replay.step(lend.lines().next().unwrap().as_bytes());
+    assert_eq!(replay.slices.lent.last, [0; LAST_ORDERS]);
 }
 
 #[test]
@@ -65,7 +119,7 @@ fn answers_without_a_book() {
 
 #[test]
 fn passed_over() {
-    let text = "LEVEL 3\nLEVEL\nSLICE last 1 2\nSLICE topup x\nBYTES notes 20\nBYTES buffer -\n\
+    let text = "LEVEL 3\nLEVEL\nSLICE topup x\nBYTES notes 20\nBYTES buffer -\n\
                 QUEUE 0\nQUEUE 1 2 3 4\n\n";
     assert_eq!(replayed(text), [""; 0]);
 }
@@ -77,6 +131,9 @@ const MALFORMED: &[&str] = &[
     "SLICE nums 9223372036854775808",
     "SLICE nums +1",
     "SLICE nums -",
+    "SLICE last x",
+    "SLICE last 1  2",
+    "SLICE last -9223372036854775809",
     "BYTES",
     "BYTES names",
     "BYTES names 4",
@@ -166,8 +223,17 @@ fn the_page_s_example() {
     let page = include_str!("../../REPLAY.md");
     let (_, example) = page.split_once("## An example").unwrap();
     let (commands, answers) = example.split_once("answers").unwrap();
-    let block = |text: &str| text.lines().filter_map(|line| line.strip_prefix("    ").map(|l| format!("{l}\n"))).collect::<String>();
+    let block = |text: &str| {
+        text.lines()
+            .filter_map(|line| line.strip_prefix("    ").map(|l| format!("{l}\n")))
+            .collect::<String>()
+    };
     let mut output = Vec::new();
-    second::replay::run(&mut SecondEngine, &mut block(commands).as_bytes(), &mut output).unwrap();
+    second::replay::run(
+        &mut SecondEngine,
+        &mut block(commands).as_bytes(),
+        &mut output,
+    )
+    .unwrap();
     assert_eq!(String::from_utf8(output).unwrap(), block(answers));
 }

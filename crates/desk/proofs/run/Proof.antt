@@ -1,3 +1,4 @@
+use mathlib.Core.Path.{refl}
 use borrow.Author.Needs.{needs}
 use Rattle.desk.proofs.run.Statement.{statement}
 use Rattle.desk.proofs.run.Tie as tie
@@ -39,8 +40,12 @@ slice-aggregate-serve c = search needs
 slice-aggregate-serve-2 : tie.Need-slice-aggregate-serve-2
 slice-aggregate-serve-2 c = search needs
 
+slice-aggregate-serve-3 : tie.Need-slice-aggregate-serve-3
+slice-aggregate-serve-3 c = search needs
+
 serve-requires : tie.Need-serve-requires
-serve-requires c κs = search needs
+serve-requires c κs =
+    (c .before .before .before .before .before .before .before .before .before .before .before .before .fill-numbers .ensures, (c .before .before .before .before .before .before .before .before .before .fill-names .ensures, refl))
 
 close-requires : tie.Need-close-requires
 close-requires c κs = search needs
@@ -50,11 +55,11 @@ enum-told-2 c = search needs
 
 returns : tie.Need-returns
 returns c =
-    record { opened = rw (← c .before .before .before .before .before .before .before .before .before .before .before .before .before .before .before .fill-numbers .ensures, ← c .before .before .before .before .before .before .before .before .before .before .before .before .fill-names .ensures, ← c .before .before .before .before .before .before .before .before .opening .ensures .says, c .before .before .before .before .before .before .enum-told .given .1) }
+    record { opened = rw (← c .before .before .before .before .before .before .before .before .before .before .before .before .before .before .before .before .before .fill-numbers .ensures, ← c .before .before .before .before .before .before .before .before .before .before .before .before .before .before .fill-names .ensures, ← c .before .before .before .before .before .before .before .before .before .before .opening .ensures .says, c .before .before .before .before .before .before .before .before .enum-told .given .1) }
 
 returns-2 : tie.Need-returns-2
 returns-2 c =
-    record { opened = rw (← c .before .before .before .before .before .before .before .before .before .before .before .before .before .before .fill-numbers .ensures, ← c .before .before .before .before .before .before .before .before .before .before .before .fill-names .ensures, ← c .before .before .before .before .before .before .before .opening .ensures .says, c .before .before .before .before .before .enum-told .given .1) }
+    record { opened = rw (← c .before .before .before .before .before .before .before .before .before .before .before .before .before .before .before .before .fill-numbers .ensures, ← c .before .before .before .before .before .before .before .before .before .before .before .before .before .fill-names .ensures, ← c .before .before .before .before .before .before .before .before .before .opening .ensures .says, c .before .before .before .before .before .before .before .enum-told .given .1) }
 
 returns-3 : tie.Need-returns-3
 returns-3 c =
@@ -74,6 +79,7 @@ run-spec =
     enum-told
     slice-aggregate-serve
     slice-aggregate-serve-2
+    slice-aggregate-serve-3
     serve-requires
     close-requires
     enum-told-2

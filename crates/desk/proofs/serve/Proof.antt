@@ -14,14 +14,15 @@ use Rattle.stdio.proofs.get.Reads as get-reads
 use Rattle.stdio.proofs.put.Reads as put-reads
 
 abbrev Inv-loop : tie.InvT-loop
-Inv-loop b₀ names block₀ line₀ len₀ turns₀ b block line len turns = (length b ≡ length b₀) × ((length block ≡ 4096) × ServedUpTo (lent b₀ names) (lent b names) line len)
+Inv-loop b₀ names last₀ block₀ line₀ len₀ turns₀ b last block line len turns =
+    (length b ≡ length b₀) × ((length last ≡ length last₀) × ((length block ≡ 4096) × ServedUpTo (lent b₀ names last₀) (lent b names last) line len))
 
 abbrev μ-loop : tie.MeasureT-loop
-μ-loop b₀ names block₀ line₀ len₀ turns₀ b block line len turns = turns
+μ-loop b₀ names last₀ block₀ line₀ len₀ turns₀ b last block line len turns = turns
 
 loop-holds : tie.Need-loop-holds Inv-loop μ-loop
 loop-holds c =
-    (search needs, (search needs, none-served _ _ (search needs)))
+    (search needs, (search needs, (search needs, none-served _ _ (search needs))))
 
 slice-aggregate-get : tie.Need-slice-aggregate-get Inv-loop μ-loop
 slice-aggregate-get c = search needs
@@ -32,9 +33,12 @@ get-requires c κs = search needs
 same-length : tie.Need-same-length Inv-loop μ-loop
 same-length c = search needs
 
+same-length-2 : tie.Need-same-length-2 Inv-loop μ-loop
+same-length-2 c = search needs
+
 returns : tie.Need-returns Inv-loop μ-loop
 returns c =
-    input-served _ _ _ _ (c .before .before .before .before .before .loop .inv .1 .1)
+    input-served _ _ _ _ (c .before .before .before .before .before .loop .inv .1 .1 .1)
 
 sub-step : tie.Need-sub-step Inv-loop μ-loop
 sub-step c = search needs
@@ -59,24 +63,30 @@ part-put-start c = search needs
 
 part-put-end : tie.Need-part-put-end Inv-loop μ-loop
 part-put-end c =
-    written-part _ _ _ _ _ _ (c .before .before .before .step .ensures)
+    written-part _ _ _ _ _ _ (c .before .before .before .before .step .ensures)
 
 put-requires : tie.Need-put-requires Inv-loop μ-loop
 put-requires c κs = search needs
 
-same-length-2 : tie.Need-same-length-2 Inv-loop μ-loop
-same-length-2 c = search needs
-
-returns-2 : tie.Need-returns-2 Inv-loop μ-loop
-returns-2 c =
-    last-served _ _ _ _ (c .before .before .before .before .before .before .before .before .before .before .before .before .before .before .before .before .before .loop .inv .1 .1) _ (left-line _ _ _ (c .before .before .before .before .before .before .before .before .before .before .before .before .before .before .before .before .before .loop .line) _ _ (c .before .before .before .before .before .before .before .before .before .before .before .before .before .before .before .before .before .loop .len) _ (search needs) (c .before .before .before .before .before .step .ensures))
-
 same-length-3 : tie.Need-same-length-3 Inv-loop μ-loop
 same-length-3 c = search needs
 
+same-length-4 : tie.Need-same-length-4 Inv-loop μ-loop
+same-length-4 c = search needs
+
+returns-2 : tie.Need-returns-2 Inv-loop μ-loop
+returns-2 c =
+    last-served _ _ _ _ (c .before .before .before .before .before .before .before .before .before .before .before .before .before .before .before .before .before .before .before .loop .inv .1 .1 .1) _ (left-line _ _ (c .before .before .before .before .before .before .before .before .before .before .before .before .before .before .before .before .before .before .before .loop .line) _ _ (c .before .before .before .before .before .before .before .before .before .before .before .before .before .before .before .before .before .before .before .loop .len) _ (search needs) (c .before .before .before .before .before .before .step .ensures))
+
+same-length-5 : tie.Need-same-length-5 Inv-loop μ-loop
+same-length-5 c = search needs
+
+same-length-6 : tie.Need-same-length-6 Inv-loop μ-loop
+same-length-6 c = search needs
+
 returns-3 : tie.Need-returns-3 Inv-loop μ-loop
 returns-3 c =
-    input-served _ _ _ _ (c .before .before .before .before .before .before .before .loop .inv .1 .1)
+    input-served _ _ _ _ (c .before .before .before .before .before .before .before .loop .inv .1 .1 .1)
 
 slice-aggregate-feed : tie.Need-slice-aggregate-feed Inv-loop μ-loop
 slice-aggregate-feed c = search needs
@@ -93,12 +103,15 @@ part-feed-end c = search needs
 feed-requires : tie.Need-feed-requires Inv-loop μ-loop
 feed-requires c κs = search needs
 
-same-length-4 : tie.Need-same-length-4 Inv-loop μ-loop
-same-length-4 c = search needs
+same-length-7 : tie.Need-same-length-7 Inv-loop μ-loop
+same-length-7 c = search needs
+
+same-length-8 : tie.Need-same-length-8 Inv-loop μ-loop
+same-length-8 c = search needs
 
 returns-4 : tie.Need-returns-4 Inv-loop μ-loop
 returns-4 c =
-    input-served _ _ _ _ (block-served _ _ _ _ _ _ _ _ _ _ _ (c .before .before .before .before .before .before .before .before .before .before .before .before .before .before .loop .inv .1 .1) (c .before .before .before .feed .ensures) (search needs))
+    input-served _ _ _ _ (block-served _ _ _ _ _ _ _ _ _ _ (c .before .before .before .before .before .before .before .before .before .before .before .before .before .before .before .before .loop .inv .1 .1 .1) (c .before .before .before .before .feed .ensures) (search needs))
 
 sub-turns : tie.Need-sub-turns Inv-loop μ-loop
 sub-turns c = search needs
@@ -108,14 +121,17 @@ loop-less c = search needs
 
 loop-again : tie.Need-loop-again Inv-loop μ-loop
 loop-again c =
-    (search needs, (search needs, block-served _ _ _ _ _ _ _ _ _ _ _ (c .before .before .before .before .before .before .before .before .before .before .before .before .before .before .loop .inv .1 .1) (c .before .before .before .feed .ensures) (search needs)))
+    (search needs, (search needs, (search needs, block-served _ _ _ _ _ _ _ _ _ _ (c .before .before .before .before .before .before .before .before .before .before .before .before .before .before .before .before .loop .inv .1 .1 .1) (c .before .before .before .before .feed .ensures) (search needs))))
 
-same-length-5 : tie.Need-same-length-5 Inv-loop μ-loop
-same-length-5 c = search needs
+same-length-9 : tie.Need-same-length-9 Inv-loop μ-loop
+same-length-9 c = search needs
+
+same-length-10 : tie.Need-same-length-10 Inv-loop μ-loop
+same-length-10 c = search needs
 
 returns-5 : tie.Need-returns-5 Inv-loop μ-loop
 returns-5 c =
-    input-served _ _ _ _ (c .before .loop .inv .1 .1)
+    input-served _ _ _ _ (c .before .loop .inv .1 .1 .1)
 
 pub serve-spec : {M : Type 1} → statement M
 serve-spec =
@@ -127,6 +143,7 @@ serve-spec =
     slice-aggregate-get
     get-requires
     same-length
+    same-length-2
     returns
     sub-step
     part-step-start
@@ -137,19 +154,23 @@ serve-spec =
     part-put-start
     part-put-end
     put-requires
-    same-length-2
-    returns-2
     same-length-3
+    same-length-4
+    returns-2
+    same-length-5
+    same-length-6
     returns-3
     slice-aggregate-feed
     sub-feed
     part-feed-start
     part-feed-end
     feed-requires
-    same-length-4
+    same-length-7
+    same-length-8
     returns-4
     sub-turns
     loop-less
     loop-again
-    same-length-5
+    same-length-9
+    same-length-10
     returns-5)

@@ -42,37 +42,43 @@ stock-level-requires c κs = search needs
 same-length : tie.Need-same-length
 same-length c = search needs
 
-returns : tie.Need-returns
-returns c =
-    rw (c .before .before .before .before .form .given .1) (c .before .new-order .ensures)
-
 same-length-2 : tie.Need-same-length-2
 same-length-2 c = search needs
 
-returns-2 : tie.Need-returns-2
-returns-2 c =
-    rw (c .before .before .before .before .form2 .given .1) (c .before .payment .ensures)
+returns : tie.Need-returns
+returns c =
+    rw (c .before .before .before .before .before .before .form .given .1) (c .before .before .new-order .ensures)
 
 same-length-3 : tie.Need-same-length-3
 same-length-3 c = search needs
 
-returns-3 : tie.Need-returns-3
-returns-3 c =
-    rw (c .before .before .before .before .form3 .given .1) (c .before .delivery .ensures)
+returns-2 : tie.Need-returns-2
+returns-2 c =
+    rw (c .before .before .before .before .form2 .given .1) (c .before .payment .ensures (c .before .before .before .before .before .before .before .before .before .before .before .args .last .now))
 
 same-length-4 : tie.Need-same-length-4
 same-length-4 c = search needs
 
-returns-4 : tie.Need-returns-4
-returns-4 c =
-    rw (c .before .before .before .form4 .given .1) (c .order-status .ensures)
+returns-3 : tie.Need-returns-3
+returns-3 c =
+    rw (c .before .before .before .before .form3 .given .1) (c .before .delivery .ensures (c .before .before .before .before .before .before .before .before .before .before .before .args .last .now))
 
 same-length-5 : tie.Need-same-length-5
 same-length-5 c = search needs
 
+same-length-6 : tie.Need-same-length-6
+same-length-6 c = search needs
+
+returns-4 : tie.Need-returns-4
+returns-4 c =
+    rw (c .before .before .before .before .form4 .given .1) (c .order-status .ensures)
+
+same-length-7 : tie.Need-same-length-7
+same-length-7 c = search needs
+
 returns-5 : tie.Need-returns-5
 returns-5 c =
-    rw (c .before .before .before .form5 .given .1) (c .stock-level .ensures)
+    rw (c .before .before .before .form5 .given .1) (c .stock-level .ensures (c .before .before .before .before .before .before .before .before .before .before .args .last .now))
 
 pub carry-out-spec : {M : Type 1} → statement M
 carry-out-spec =
@@ -89,12 +95,14 @@ carry-out-spec =
     enum-known-form-5
     stock-level-requires
     same-length
-    returns
     same-length-2
-    returns-2
+    returns
     same-length-3
-    returns-3
+    returns-2
     same-length-4
-    returns-4
+    returns-3
     same-length-5
+    same-length-6
+    returns-4
+    same-length-7
     returns-5)

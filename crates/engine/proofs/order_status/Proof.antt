@@ -1,5 +1,5 @@
 use mathlib.Core.Path.{refl}
-use Rattle.model.specs.Request.{answerOf, ordersOf, shownPart, numsAfter}
+use Rattle.model.specs.Request.{answerOf, ordersOf, shownPart, numsAfter, lastAfter}
 use borrow.Author.Needs.{needs}
 use Rattle.engine.proofs.order_status.Statement.{statement}
 use Rattle.engine.proofs.order_status.Tie as tie
@@ -11,7 +11,7 @@ status-shown-requires : tie.Need-status-shown-requires
 status-shown-requires c κs = search needs
 
 returns : tie.Need-returns
-unfolding answerOf ordersOf shownPart numsAfter
+unfolding answerOf ordersOf shownPart numsAfter lastAfter
 returns c =
     record { kind = refl; says = c .before .status-shown .ensures .says; orders = refl; within = c .before .status-shown .ensures .within; shows = c .before .status-shown .ensures .shows; leaves = refl }
 

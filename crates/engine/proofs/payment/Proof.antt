@@ -1,5 +1,5 @@
 use mathlib.Core.Path.{refl}
-use Rattle.model.specs.Request.{answerOf, ordersOf, shownPart, numsAfter}
+use Rattle.model.specs.Request.{answerOf, ordersOf, shownPart, numsAfter, lastAfter}
 use borrow.Author.Needs.{needs}
 use Rattle.engine.proofs.payment.Statement.{statement}
 use Rattle.engine.proofs.payment.Tie as tie
@@ -14,9 +14,9 @@ same-length : tie.Need-same-length
 same-length c = search needs
 
 returns : tie.Need-returns
-unfolding answerOf ordersOf shownPart numsAfter
-returns c =
-    record { kind = refl; says = c .before .payment .ensures .says; orders = refl; within = search needs; shows = refl; leaves = c .before .payment .ensures .leaves }
+unfolding answerOf ordersOf shownPart numsAfter lastAfter
+returns c last =
+    record { kind = refl; says = c .before .payment .ensures .says; orders = refl; within = search needs; shows = refl; leaves = rw (c .before .payment .ensures .leaves) }
 
 pub payment-spec : {M : Type 1} → statement M
 payment-spec = tie.close (tie.spec payment-requires same-length returns)

@@ -81,7 +81,10 @@ stayed = (
   stay-none-slice (0 ∷ []) tt (plain (λ _. i64)) yes,
   (
     stay-none-slice (1 ∷ []) tt (plain (λ _. u8)) yes,
-    (stay-none (λ _. Q.the-row) yes, (stay-none (λ _. E.the-row) yes, (stay-none-slice (2 ∷ []) tt (plain (λ _. u8)) yes, tt))),
+    (
+      stay-none-slice (2 ∷ []) tt (plain (λ _. i64)) yes,
+      (stay-none (λ _. Q.the-row) yes, (stay-none (λ _. E.the-row) yes, (stay-none-slice (3 ∷ []) tt (plain (λ _. u8)) yes, tt))),
+    ),
   ),
 )
 
@@ -124,19 +127,19 @@ module _ {M : Type 1} (𝓤 : URA M) (H : Heap 𝓤) (A : Atoms 𝓤) (mem : Mem
   abbrev Cuts : Contract 𝓤
   Cuts = tripleOf 𝓤 H A lines.signature (lines.spec 𝓤 H A mem run)
 
-module _ {M : Type 1} (𝓤 : URA M) (H : Heap 𝓤) (A : Atoms 𝓤) (W : Given 𝓤 H A) (mem : Memory → SProp 𝓤) (run : Routine → Fun 𝓤) (κ κ′ κ″ : Lft) (q q′ q″ : Share)
-    (b : RefT (List ℤ)) (n : RefT (List ℕ)) (t : OrderStatus) (w : Selection) (m : RefT (List ℕ))
-    (rb : Room i64 (length (b .now))) (rn : Room u8 (length (n .now))) (gt : Is Q.the-row t (qval t ∷ [])) (gw : Is E.the-row w (wval w ∷ [])) (rm : Room u8 (length (m .now))) where
-  abbrev κs : Lfts 3
-  κs = (κ, (κ′, (κ″, tt)))
+module _ {M : Type 1} (𝓤 : URA M) (H : Heap 𝓤) (A : Atoms 𝓤) (W : Given 𝓤 H A) (mem : Memory → SProp 𝓤) (run : Routine → Fun 𝓤) (κ κ′ κ″ κ‴ : Lft) (q q′ q″ q‴ : Share)
+    (b : RefT (List ℤ)) (n : RefT (List ℕ)) (o : RefT (List ℤ)) (t : OrderStatus) (w : Selection) (m : RefT (List ℕ))
+    (rb : Room i64 (length (b .now))) (rn : Room u8 (length (n .now))) (ro : Room i64 (length (o .now))) (gt : Is Q.the-row t (qval t ∷ [])) (gw : Is E.the-row w (wval w ∷ [])) (rm : Room u8 (length (m .now))) where
+  abbrev κs : Lfts 4
+  κs = (κ, (κ′, (κ″, (κ‴, tt))))
 
-  abbrev qs : Shares 3
-  qs = (q, (q′, (q″, tt)))
+  abbrev qs : Shares 4
+  qs = (q, (q′, (q″, (q‴, tt))))
 
   abbrev α : NamedLft
-  α = namedLft 3 0 tt κs
+  α = namedLft 4 0 tt κs
 
-  -- the machine value of a slice of the book's numbers, and of one of bytes
+  -- the machine value of a slice of numbers, and of one of bytes
   abbrev slv : RefT (List ℤ) → Val
   slv y = sliceVal (y .ptr) (length (y .now))
 
@@ -144,13 +147,13 @@ module _ {M : Type 1} (𝓤 : URA M) (H : Heap 𝓤) (A : Atoms 𝓤) (W : Given
   bytes y = sliceVal (y .ptr) (length (y .now))
 
   abbrev a : Args status.signature κs
-  a = (b, (n, (t, (w, (m, tt)))))
+  a = (b, (n, (o, (t, (w, (m, tt))))))
 
   abbrev at : Vals status.signature κs
-  at = (slv b ∷ [], (bytes n ∷ [], (qval t ∷ [], (wval w ∷ [], (bytes m ∷ [], tt)))))
+  at = (slv b ∷ [], (bytes n ∷ [], (slv o ∷ [], (qval t ∷ [], (wval w ∷ [], (bytes m ∷ [], tt))))))
 
   abbrev vs : List Val
-  vs = slv b ∷ bytes n ∷ qval t ∷ wval w ∷ bytes m ∷ []
+  vs = slv b ∷ bytes n ∷ slv o ∷ qval t ∷ wval w ∷ bytes m ∷ []
 
   abbrev Post : Val → SProp 𝓤
   Post = walkOf 𝓤 H A status.ended stayed (status.clauses 𝓤 H A mem run) .post ((κs, qs, tt, a, at), tt)
@@ -161,12 +164,19 @@ module _ {M : Type 1} (𝓤 : URA M) (H : Heap 𝓤) (A : Atoms 𝓤) (W : Given
   abbrev Names : Fml
   Names = ShrSlice (named 1) κ′ u8 .own n (bytes n ∷ [])
 
-  abbrev Name : Fml
-  Name = ShrSlice (named 2) κ″ u8 .own m (bytes m ∷ [])
+  abbrev Last : Fml
+  Last = ShrSlice (named 2) κ″ i64 .own o (slv o ∷ [])
 
-  -- the tokens of the second and third lifetime, and of all three
+  abbrev Name : Fml
+  Name = ShrSlice (named 3) κ‴ u8 .own m (bytes m ∷ [])
+
+  -- what is lent beside the book
+  abbrev Beside : Item 𝓤
+  Beside = (‵ Names ⊛ ‵ Last) ⊛ ‵ Name
+
+  -- the tokens of all lifetimes but the first, and of all four
   abbrev Others : Item 𝓤
-  Others = ‵ (flft κ′ q′) ⊛ ‵ (flft κ″ q″) ⊛ ‵ ftrue
+  Others = ‵ (flft κ′ q′) ⊛ ‵ (flft κ″ q″) ⊛ ‵ (flft κ‴ q‴) ⊛ ‵ ftrue
 
   abbrev Alive : Item 𝓤
   Alive = ‵ (flft κ q) ⊛ Others
@@ -179,7 +189,7 @@ module _ {M : Type 1} (𝓤 : URA M) (H : Heap 𝓤) (A : Atoms 𝓤) (W : Given
   tval r y = LL.val (T.the-type α) (T′.the-laws α) (made r y)
 
   abbrev Says : Shown → Type 0
-  Says r = ShownCall (b .now) (n .now) t (whoOf w (m .now)) r
+  Says r = ShownCall (b .now) (n .now) (o .now) t (whoOf w (m .now)) r
 
   -- what `lines_in` says
   abbrev Cut : Shown → RefT (List ℤ) → Type 0
@@ -188,11 +198,11 @@ module _ {M : Type 1} (𝓤 : URA M) (H : Heap 𝓤) (A : Atoms 𝓤) (W : Given
   abbrev to-shown : Finds 𝓤 H A mem run .Ghost
   to-shown = ((κs, qs, tt, a, at), tt)
 
-  goes-shown : ent 𝓤 (⋆ 𝓤 H A ((‵ Names ⊛ ‵ Name) ∷ Alive ∷ ‵ (Shr b (slv b)) ∷ [])) (Finds 𝓤 H A mem run .pre to-shown)
+  goes-shown : ent 𝓤 (⋆ 𝓤 H A (Beside ∷ Alive ∷ ‵ (Shr b (slv b)) ∷ [])) (Finds 𝓤 H A mem run .pre to-shown)
   goes-shown =
-      qed W ((‵ Names ⊛ ‵ Name) ∷ Alive ∷ ‵ (Shr b (slv b)) ∷ []) ∵ split ! $ nothing ! $ move ! (2 ∷ 0 ∷ []) $ fjoin ! $
+      qed W (Beside ∷ Alive ∷ ‵ (Shr b (slv b)) ∷ []) ∵ split ! $ split ! $ nothing ! $ move ! (3 ∷ 0 ∷ []) $ fjoin ! $
       owned ! E.the-row (Is E.the-row) (EL.makes E.the-type E′.the-plain 𝓤 H A) w _ gw $ fjoin ! $ owned ! Q.the-row (Is Q.the-row) (LL.makes Q.the-type Q′.the-plain 𝓤 H A) t _ gt $ fjoin ! $
-      move ! (1 ∷ 0 ∷ []) $ fjoin ! $ move ! (2 ∷ 0 ∷ []) $ fjoin ! $ move ! (1 ∷ 0 ∷ []) $ join ! $ frame ! $ done !
+      move ! (2 ∷ 0 ∷ []) $ fjoin ! $ move ! (1 ∷ 0 ∷ []) $ fjoin ! $ move ! (2 ∷ 0 ∷ []) $ fjoin ! $ move ! (1 ∷ 0 ∷ []) $ join ! $ frame ! $ done !
 
   shown-said : (r : Shown) → ent 𝓤 (ensured 𝓤 H A shown.ended (shown.clauses 𝓤 H A mem run) κs a tt r) (fact 𝓤 (Says r))
   shown-said r = exE 𝓤 _ (λ ws. snd∗ 𝓤 (sem 𝓤 H A (lasts shown.ended κs a ws)) (fact 𝓤 (Says r)))
@@ -214,19 +224,19 @@ module _ {M : Type 1} (𝓤 : URA M) (H : Heap 𝓤) (A : Atoms 𝓤) (W : Given
   y-spelled y x is = ap hd (shr-slice-tells (named 0) κ i64 y (x ∷ []) is)
 
   exits : (r : Shown) (y : RefT (List ℤ)) → Is O.the-row (r .outcome) (ovals (r .outcome))
-      → StatusCall (b .now) (n .now) t (whoOf w (m .now)) (r .outcome) (now y) (b .ptr) (y .ptr)
-      → ent 𝓤 (⋆ 𝓤 H A ((‵ (flft κ q) ⊛ ‵ ftrue) ∷ Others ∷ ‵ (Shr b (slv b)) ∷ ‵ Names ∷ ‵ Name ∷ ‵ (Shr y (slv y)) ∷ [])) (Post (tval r y))
+      → StatusCall (b .now) (n .now) (o .now) t (whoOf w (m .now)) (r .outcome) (now y) (b .ptr) (y .ptr)
+      → ent 𝓤 (⋆ 𝓤 H A ((‵ (flft κ q) ⊛ ‵ ftrue) ∷ Others ∷ ‵ (Shr b (slv b)) ∷ ‵ Names ∷ ‵ Last ∷ ‵ Name ∷ ‵ (Shr y (slv y)) ∷ [])) (Post (tval r y))
   exits r y is e =
-      qed W ((‵ (flft κ q) ⊛ ‵ ftrue) ∷ Others ∷ ‵ (Shr b (slv b)) ∷ ‵ Names ∷ ‵ Name ∷ ‵ (Shr y (slv y)) ∷ []) ∵
-      suffices ! _ (ends-at 𝓤 H A status.ended stayed (status.clauses 𝓤 H A mem run) W ((κs, qs, tt, a, at), tt) (tval r y) (made r y) (tt, (tt, (tt, (tt, (tt, tt))))) (tt, (tt, (tt, (tt, (tt, tt)))))) $ says ! e $
+      qed W ((‵ (flft κ q) ⊛ ‵ ftrue) ∷ Others ∷ ‵ (Shr b (slv b)) ∷ ‵ Names ∷ ‵ Last ∷ ‵ Name ∷ ‵ (Shr y (slv y)) ∷ []) ∵
+      suffices ! _ (ends-at 𝓤 H A status.ended stayed (status.clauses 𝓤 H A mem run) W ((κs, qs, tt, a, at), tt) (tval r y) (made r y) (tt, (tt, (tt, (tt, (tt, (tt, tt)))))) (tt, (tt, (tt, (tt, (tt, (tt, tt))))))) $ says ! e $
       split ! $ move ! (0 ∷ 2 ∷ []) $ join ! $ frame ! $
-      -- [true; the book; names; name; the part]
-      move ! (3 ∷ 0 ∷ []) $ fjoin ! $ owned ! E.the-row (Is E.the-row) (EL.makes E.the-type E′.the-plain 𝓤 H A) w _ gw $ fjoin ! $ owned ! Q.the-row (Is Q.the-row) (LL.makes Q.the-type Q′.the-plain 𝓤 H A) t _ gt $ fjoin ! $
-      move ! (2 ∷ 0 ∷ []) $ fjoin ! $ move ! (1 ∷ 0 ∷ []) $ fjoin ! $ frame ! $
+      -- [true; the book; names; last orders; name; the part]
+      move ! (4 ∷ 0 ∷ []) $ fjoin ! $ owned ! E.the-row (Is E.the-row) (EL.makes E.the-type E′.the-plain 𝓤 H A) w _ gw $ fjoin ! $ owned ! Q.the-row (Is Q.the-row) (LL.makes Q.the-type Q′.the-plain 𝓤 H A) t _ gt $ fjoin ! $
+      move ! (3 ∷ 0 ∷ []) $ fjoin ! $ move ! (2 ∷ 0 ∷ []) $ fjoin ! $ move ! (1 ∷ 0 ∷ []) $ fjoin ! $ frame ! $
       nothing ! $ move ! (1 ∷ 0 ∷ []) $ fjoin ! $ owned ! O.the-row (Is O.the-row) (EL.makes O.the-type O′.the-plain 𝓤 H A) (r .outcome) _ is $ fjoin ! $ by ! (own-shut 𝓤 H A W (T.the-type α) (T′.the-laws α) (r .outcome, (y, tt)))
 
   -- the lines are those of the part, and lie in the book
-  lines-shown : (r : Shown) (y : RefT (List ℤ)) → Says r → Cut r y → StatusCall (b .now) (n .now) t (whoOf w (m .now)) (r .outcome) (now y) (b .ptr) (y .ptr)
+  lines-shown : (r : Shown) (y : RefT (List ℤ)) → Says r → Cut r y → StatusCall (b .now) (n .now) (o .now) t (whoOf w (m .now)) (r .outcome) (now y) (b .ptr) (y .ptr)
   unfolding statusLines
   lines-shown r y e c =
       record { says = e .says; shows = c .0 ∙ ap (λ (p : Part). partOf p (b .now)) (e .shows); lies = c .1 ∙ ap (λ (p : Part). (b .ptr .0, b .ptr .1 + 8 * p .from)) (e .shows) }
@@ -239,60 +249,64 @@ module _ {M : Type 1} (𝓤 : URA M) (H : Heap 𝓤) (A : Atoms 𝓤) (W : Given
     walk : ent 𝓤 (onEntry 𝓤 H A status.signature κs qs a at) (WpFn 𝓤 H C Λ code.function vs Post)
     unfolding hd
     walk =
-        qed W (Alive ∷ ‵ (owns (ShrSlice (named 0) κ i64 ∷ ShrSlice (named 1) κ′ u8 ∷ Q.the-row ∷ E.the-row ∷ ShrSlice (named 2) κ″ u8 ∷ []) a at) ∷ []) ∵ enter ! C Λ code.function vs _ $
-        alloc1 ! (λ l₀. alloc1 ! (λ l₁. alloc1 ! (λ l₂. alloc1 ! (λ l₃. alloc1 ! (λ l₄. alloc1 ! (λ l₅. alloc1 ! (λ l₆. alloc1 ! (λ l₇. alloc1 ! (λ l₈. alloc0 ! $ params1 ! $
-        pass1 ! (init ! 14 refl (tt, (tt, (record { fits = rb .0 }, tt)))) $ pass1 ! (init ! 12 refl (tt, (tt, (record { fits = rn .0 }, tt)))) $
+        qed W (Alive ∷ ‵ (owns (ShrSlice (named 0) κ i64 ∷ ShrSlice (named 1) κ′ u8 ∷ ShrSlice (named 2) κ″ i64 ∷ Q.the-row ∷ E.the-row ∷ ShrSlice (named 3) κ‴ u8 ∷ []) a at) ∷ []) ∵ enter ! C Λ code.function vs _ $
+        alloc1 ! (λ l₀. alloc1 ! (λ l₁. alloc1 ! (λ l₂. alloc1 ! (λ l₃. alloc1 ! (λ l₄. alloc1 ! (λ l₅. alloc1 ! (λ l₆. alloc1 ! (λ l₇. alloc1 ! (λ l₈. alloc1 ! (λ l₉. alloc0 ! $ params1 ! $
+        pass1 ! (init ! 16 refl (tt, (tt, (record { fits = rb .0 }, tt)))) $ pass1 ! (init ! 14 refl (tt, (tt, (record { fits = rn .0 }, tt)))) $ pass1 ! (init ! 12 refl (tt, (tt, (record { fits = ro .0 }, tt)))) $
         pass1 ! (init ! 10 refl (LL.lawful Q.the-type Q′.the-laws 𝓤 H A W .typed t _ gt .0)) $ pass1 ! (init ! 8 refl (EL.lawful E.the-type E′.the-laws 𝓤 H A W tt .typed w _ gw .0)) $
         pass1 ! (init ! 6 refl (tt, (tt, (record { fits = rm .0 }, tt)))) $ pass0 ! $
-        move ! (19 ∷ []) $ fsplit ! $ move ! (1 ∷ []) $ fsplit ! $ move ! (1 ∷ []) $ fsplit ! $ drop ! $ fsplit ! $ drop ! $ fsplit ! $ move ! (1 ∷ []) $ drop ! $
-        -- [name; names; the book; _8; …; _1; …; room for _0; …; the tokens]
-        use1 W (‵ Name ⊛ ‵ Name) (shr-slice-copy 𝓤 H A W (named 2) κ″ u8 .twice m (bytes m ∷ [])) $ split ! $ move ! (2 ∷ []) $
-        use1 W (‵ Names ⊛ ‵ Names) (shr-slice-copy 𝓤 H A W (named 1) κ′ u8 .twice n (bytes n ∷ [])) $ split ! $ move ! (4 ∷ []) $
+        move ! (21 ∷ []) $ fsplit ! $ move ! (1 ∷ []) $ fsplit ! $ move ! (1 ∷ []) $ fsplit ! $ move ! (1 ∷ []) $ fsplit ! $ drop ! $ fsplit ! $ drop ! $ fsplit ! $ move ! (1 ∷ []) $ drop ! $
+        -- [name; last orders; names; the book; _9; …; _1; …; room for _0; …; the tokens]
+        use1 W (‵ Name ⊛ ‵ Name) (shr-slice-copy 𝓤 H A W (named 3) κ‴ u8 .twice m (bytes m ∷ [])) $ split ! $ move ! (2 ∷ []) $
+        use1 W (‵ Last ⊛ ‵ Last) (shr-slice-copy 𝓤 H A W (named 2) κ″ i64 .twice o (slv o ∷ [])) $ split ! $ move ! (4 ∷ []) $
+        use1 W (‵ Names ⊛ ‵ Names) (shr-slice-copy 𝓤 H A W (named 1) κ′ u8 .twice n (bytes n ∷ [])) $ split ! $ move ! (6 ∷ []) $
         use1 W (‵ (Shr b (slv b)) ⊛ ‵ (Shr b (slv b))) (shr-slice-copy 𝓤 H A W (named 0) κ i64 .twice b (slv b ∷ [])) $ split ! $
-        move ! (2 ∷ 4 ∷ 24 ∷ 0 ∷ []) $ join ! $ use3 W (raw (Finds 𝓤 H A mem run .pre to-shown)) goes-shown $
-        -- [what `status_shown` asks; the book; names; name; _8; …; _7; …; _6; …; _5; …; _4; …; _3; …; _2; …; _1; …; room for _0; …]
-        calls-at ! fm (Finds 𝓤 H A mem run) known-shown to-shown (and-then ! (load ! (from ! (stop !)) (look ! 18 refl)) (and-then ! (load ! (from ! (stop !)) (look ! 16 refl)) (and-then ! (load ! (from ! (stop !)) (look ! 14 refl))
-        (and-then ! (load ! (from ! (stop !)) (look ! 12 refl)) (and-then ! (load ! (from ! (stop !)) (look ! 10 refl)) (no-more !)))))) (λ u.
+        move ! (2 ∷ 4 ∷ 6 ∷ 28 ∷ 0 ∷ []) $ join ! $ join ! $ use3 W (raw (Finds 𝓤 H A mem run .pre to-shown)) goes-shown $
+        -- [what `status_shown` asks; the book; names; last orders; name; _9; …; _8; …; _7; …; _6; …; _5; …; _4; …; _3; …; _2; …; _1; …; room for _0; …]
+        calls-at ! fm (Finds 𝓤 H A mem run) known-shown to-shown (and-then ! (load ! (from ! (stop !)) (look ! 21 refl)) (and-then ! (load ! (from ! (stop !)) (look ! 19 refl)) (and-then ! (load ! (from ! (stop !)) (look ! 17 refl))
+        (and-then ! (load ! (from ! (stop !)) (look ! 15 refl)) (and-then ! (load ! (from ! (stop !)) (look ! 13 refl)) (and-then ! (load ! (from ! (stop !)) (look ! 11 refl)) (no-more !))))))) (λ u.
         use1 W (later (some (λ (r : Shown). (Alive ⊛ ‵ (S.the-row .own r (u ∷ []))) ⊛ raw (ensured 𝓤 H A shown.ended (shown.clauses 𝓤 H A mem run) κs a tt r)))) (id⊢ 𝓤 _) $ await ! tt $ pick ! (λ r.
         split ! $ move ! (1 ∷ []) $ use1 W (raw (fact 𝓤 (Says r))) (shown-said r) $ heard ! (Says r) (λ e. split ! $ move ! (1 ∷ []) $
-        peeks ! S.the-row (Is S.the-row) (shows 𝓤 H A S.the-row) r (u ∷ []) (λ is. land ! (from ! (stop !)) (init ! 9 refl (LL.lawful S.the-type S′.the-laws 𝓤 H A W .typed r _ is .0)) $ drop ! $
-        rewrite ! 8 (λ (x : Val). ‵ (fat fullShare S′.mir l₆ 0 x)) (s-spelled r u is) refl $
-        -- [the tokens; the book; names; name; _8; …]
+        peeks ! S.the-row (Is S.the-row) (shows 𝓤 H A S.the-row) r (u ∷ []) (λ is. land ! (from ! (stop !)) (init ! 10 refl (LL.lawful S.the-type S′.the-laws 𝓤 H A W .typed r _ is .0)) $ drop ! $
+        rewrite ! 9 (λ (x : Val). ‵ (fat fullShare S′.mir l₇ 0 x)) (s-spelled r u is) refl $
+        -- [the tokens; the book; names; last orders; name; _9; …]
         split ! $ move ! (2 ∷ []) $ use1 W (‵ (Shr b (slv b)) ⊛ ‵ (Shr b (slv b))) (shr-slice-copy 𝓤 H A W (named 0) κ i64 .twice b (slv b ∷ [])) $ split ! $
         move ! (2 ∷ 0 ∷ []) $ use2 W (raw (Cuts 𝓤 H A mem run .pre (to-lines r))) (goes-lines r (part-is r u is) (e .within)) $
-        -- [what `lines_in` asks; the book; the other tokens; names; name; _8; …; _7; …; _6; …; _5; …; _4; …; _3; …; _2; …; _1; …; room for _0; …]
-        calls-at ! fm (Cuts 𝓤 H A mem run) known-lines (to-lines r) (and-then ! (load ! (from ! (stop !)) (look ! 19 refl)) (and-then ! (load ! (from ! (fld ! refl (stop !))) (look-in ! 9 (sub ! 1 refl (whole !)))) (no-more !))) (λ x.
+        -- [what `lines_in` asks; the book; the other tokens; names; last orders; name; _9; …; _8; …; _7; …; _6; …; _5; …; _4; …; _3; …; _2; …; _1; …; room for _0; …]
+        calls-at ! fm (Cuts 𝓤 H A mem run) known-lines (to-lines r) (and-then ! (load ! (from ! (stop !)) (look ! 22 refl)) (and-then ! (load ! (from ! (fld ! refl (stop !))) (look-in ! 10 (sub ! 1 refl (whole !)))) (no-more !))) (λ x.
         use1 W (later (some (λ (y : RefT (List ℤ)). ((‵ (flft κ q) ⊛ ‵ ftrue) ⊛ ‵ (Shr y x)) ⊛ raw (ensured 𝓤 H A lines.ended (lines.clauses 𝓤 H A mem run) (κ, tt) (b, (r .part, tt)) tt y)))) (id⊢ 𝓤 _) $ await ! tt $ pick ! (λ y.
         split ! $ move ! (1 ∷ []) $ use1 W (raw (fact 𝓤 (Cut r y))) (lines-said r y) $ heard ! (Cut r y) (λ e′. split ! $ move ! (1 ∷ []) $
         peeks ! (ShrSlice (named 0) κ i64) (Is (ShrSlice (named 0) κ i64)) (shows 𝓤 H A (ShrSlice (named 0) κ i64)) y (x ∷ []) (λ is′.
-        land ! (from ! (stop !)) (init ! 8 refl (shr-slice-lawful 𝓤 H A W erased κ i64 .typed y (x ∷ []) is′ .0)) $
-        rewrite ! 8 (λ (z : Val). ‵ (fat fullShare (sliceTy (tyRef erased imm (tyInt w64))) l₇ 0 z)) (y-spelled y x is′) refl $ rewrite ! 0 (λ (z : Val). ‵ (Shr y z)) (y-spelled y x is′) refl $
+        land ! (from ! (stop !)) (init ! 9 refl (shr-slice-lawful 𝓤 H A W erased κ i64 .typed y (x ∷ []) is′ .0)) $
+        rewrite ! 9 (λ (z : Val). ‵ (fat fullShare (sliceTy (tyRef erased imm (tyInt w64))) l₈ 0 z)) (y-spelled y x is′) refl $ rewrite ! 0 (λ (z : Val). ‵ (Shr y z)) (y-spelled y x is′) refl $
         peeks ! (ShrSlice (named 0) κ i64) (Is (ShrSlice (named 0) κ i64)) (shows 𝓤 H A (ShrSlice (named 0) κ i64)) y (slv y ∷ []) (λ is″.
-        -- [the part; the token; the book; the other tokens; names; name; _8; …; _7; …; _6; …; _5; …; _4; …; _3; …; _2; …; _1; …; room for _0; …]
-        assigns ! (of-opd ! (load ! (from ! (fld ! refl (stop !))) (look-in ! 10 (sub ! 0 refl (whole !))))) (from ! (stop !)) (init ! 6 refl (EL.lawful O.the-type O′.the-laws 𝓤 H A W tt .typed (r .outcome) (ovals (r .outcome)) (outcome-is r u is) .0)) $
-        assigns ! (agg ! (and-then ! (load ! (from ! (stop !)) (look ! 6 refl)) (and-then ! (load ! (from ! (stop !)) (look ! 8 refl)) (no-more !)))) (from ! (stop !)) (init ! 22 refl (LL.lawful (T.the-type α) (T′.the-laws α) 𝓤 H A W .typed (made r y) _ (made-is r y (outcome-is r u is) is″) .0)) $
-        returns ! (look ! 22 refl) $ forget ! 6 refl $ forget ! 8 refl $ forget ! 10 refl $ forget ! 12 refl $ forget ! 14 refl $ forget ! 16 refl $ forget ! 18 refl $ forget ! 20 refl $ forget ! 22 refl $
-        move ! (22 ∷ 23 ∷ []) $ free1 ! $ move ! (20 ∷ 21 ∷ []) $ free1 ! $ move ! (18 ∷ 19 ∷ []) $ free1 ! $ move ! (16 ∷ 17 ∷ []) $ free1 ! $ move ! (14 ∷ 15 ∷ []) $ free1 ! $
-        move ! (12 ∷ 13 ∷ []) $ free1 ! $ move ! (10 ∷ 11 ∷ []) $ free1 ! $ move ! (8 ∷ 9 ∷ []) $ free1 ! $ move ! (6 ∷ 7 ∷ []) $ free1 ! $ free0 ! $
-        keep ! (1 ∷ 3 ∷ 2 ∷ 4 ∷ 5 ∷ 0 ∷ []) $ by ! (exits r y (outcome-is r u is) (lines-shown r y e e′))))))))))))))))))))
+        -- [the part; the token; the book; the other tokens; names; last orders; name; _9; …; _8; …; _7; …; _6; …; _5; …; _4; …; _3; …; _2; …; _1; …; room for _0; …]
+        assigns ! (of-opd ! (load ! (from ! (fld ! refl (stop !))) (look-in ! 11 (sub ! 0 refl (whole !))))) (from ! (stop !)) (init ! 7 refl (EL.lawful O.the-type O′.the-laws 𝓤 H A W tt .typed (r .outcome) (ovals (r .outcome)) (outcome-is r u is) .0)) $
+        assigns ! (agg ! (and-then ! (load ! (from ! (stop !)) (look ! 7 refl)) (and-then ! (load ! (from ! (stop !)) (look ! 9 refl)) (no-more !)))) (from ! (stop !)) (init ! 25 refl (LL.lawful (T.the-type α) (T′.the-laws α) 𝓤 H A W .typed (made r y) _ (made-is r y (outcome-is r u is) is″) .0)) $
+        returns ! (look ! 25 refl) $ forget ! 7 refl $ forget ! 9 refl $ forget ! 11 refl $ forget ! 13 refl $ forget ! 15 refl $ forget ! 17 refl $ forget ! 19 refl $ forget ! 21 refl $ forget ! 23 refl $ forget ! 25 refl $
+        move ! (25 ∷ 26 ∷ []) $ free1 ! $ move ! (23 ∷ 24 ∷ []) $ free1 ! $ move ! (21 ∷ 22 ∷ []) $ free1 ! $ move ! (19 ∷ 20 ∷ []) $ free1 ! $ move ! (17 ∷ 18 ∷ []) $ free1 ! $ move ! (15 ∷ 16 ∷ []) $ free1 ! $
+        move ! (13 ∷ 14 ∷ []) $ free1 ! $ move ! (11 ∷ 12 ∷ []) $ free1 ! $ move ! (9 ∷ 10 ∷ []) $ free1 ! $ move ! (7 ∷ 8 ∷ []) $ free1 ! $ free0 ! $
+        keep ! (1 ∷ 3 ∷ 2 ∷ 4 ∷ 5 ∷ 6 ∷ 0 ∷ []) $ by ! (exits r y (outcome-is r u is) (lines-shown r y e e′)))))))))))))))))))))
 
 module _ {M : Type 1} (𝓤 : URA M) (H : Heap 𝓤) (A : Atoms 𝓤) (W : Given 𝓤 H A) (mem : Memory → SProp 𝓤) (run : Routine → Fun 𝓤) where
   status-walks : (C : Calls 𝓤 H) (Λ : Loops 𝓤 H) → FmC 𝓤 H (W .laws) C → Triple 𝓤 (C #shown) (Finds 𝓤 H A mem run) → Triple 𝓤 (C #lines) (Cuts 𝓤 H A mem run)
       → Walks 𝓤 H A status.ended stayed (WpFn 𝓤 H C Λ code.function) (status.clauses 𝓤 H A mem run)
   status-walks C Λ fm known-shown known-lines = walked 𝓤 H A status.ended stayed (status.clauses 𝓤 H A mem run) (WpFn 𝓤 H C Λ code.function)
-      (λ κs. (slice-vals, (slice-vals, (LL.vals Q.the-type Q′.the-laws, (EL.vals E.the-type E′.the-laws, (slice-vals, tt))))))
-      (λ κs. (shr-slice-tells (named 0) (κs .0) i64, (shr-slice-tells (named 1) (κs .1 .0) u8, (LL.tells Q.the-type Q′.the-laws, (EL.tells E.the-type E′.the-laws, (shr-slice-tells (named 2) (κs .1 .1 .0) u8, tt))))))
-      (λ κs qs bounds a g are. via 𝓤 _ (fst∗ 𝓤 _ (emp 𝓤)) (walk 𝓤 H A W mem run (κs .0) (κs .1 .0) (κs .1 .1 .0) (qs .0) (qs .1 .0) (qs .1 .1 .0)
-      (a .0) (a .1 .0) (a .1 .1 .0) (a .1 .1 .1 .0) (a .1 .1 .1 .1 .0) (are .0 .0 .1) (are .1 .0 .0 .1) (are .1 .1 .0) (are .1 .1 .1 .0) (are .1 .1 .1 .1 .0 .0 .1) C Λ fm known-shown known-lines))
+      (λ κs. (slice-vals, (slice-vals, (slice-vals, (LL.vals Q.the-type Q′.the-laws, (EL.vals E.the-type E′.the-laws, (slice-vals, tt)))))))
+      (λ κs. (shr-slice-tells (named 0) (κs .0) i64, (shr-slice-tells (named 1) (κs .1 .0) u8, (shr-slice-tells (named 2) (κs .1 .1 .0) i64, (LL.tells Q.the-type Q′.the-laws, (EL.tells E.the-type E′.the-laws, (shr-slice-tells (named 3) (κs .1 .1 .1 .0) u8, tt)))))))
+      (λ κs qs bounds a g are. via 𝓤 _ (fst∗ 𝓤 _ (emp 𝓤)) (walk 𝓤 H A W mem run (κs .0) (κs .1 .0) (κs .1 .1 .0) (κs .1 .1 .1 .0) (qs .0) (qs .1 .0) (qs .1 .1 .0) (qs .1 .1 .1 .0)
+      (a .0) (a .1 .0) (a .1 .1 .0) (a .1 .1 .1 .0) (a .1 .1 .1 .1 .0) (a .1 .1 .1 .1 .1 .0) (are .0 .0 .1) (are .1 .0 .0 .1) (are .1 .1 .0 .0 .1) (are .1 .1 .1 .0) (are .1 .1 .1 .1 .0) (are .1 .1 .1 .1 .1 .0 .0 .1) C Λ fm known-shown known-lines))
 
-  goes : AllGo 𝓤 H A W 3 (status.signature .params) (status.ended .kept) stayed
+  goes : AllGo 𝓤 H A W 4 (status.signature .params) (status.ended .kept) stayed
   goes = (
-    goes-none-slice 𝓤 H A W 3 (0 ∷ []) tt (plain (λ _. i64)) yes,
+    goes-none-slice 𝓤 H A W 4 (0 ∷ []) tt (plain (λ _. i64)) yes,
     (
-      goes-none-slice 𝓤 H A W 3 (1 ∷ []) tt (plain (λ _. u8)) yes,
+      goes-none-slice 𝓤 H A W 4 (1 ∷ []) tt (plain (λ _. u8)) yes,
       (
-        goes-none 𝓤 H A W 3 (λ _. Q.the-row) yes (λ κs x f. refl),
-        (goes-none 𝓤 H A W 3 (λ _. E.the-row) yes (λ κs x f. refl), (goes-none-slice 𝓤 H A W 3 (2 ∷ []) tt (plain (λ _. u8)) yes, tt)),
+        goes-none-slice 𝓤 H A W 4 (2 ∷ []) tt (plain (λ _. i64)) yes,
+        (
+          goes-none 𝓤 H A W 4 (λ _. Q.the-row) yes (λ κs x f. refl),
+          (goes-none 𝓤 H A W 4 (λ _. E.the-row) yes (λ κs x f. refl), (goes-none-slice 𝓤 H A W 4 (3 ∷ []) tt (plain (λ _. u8)) yes, tt)),
+        ),
       ),
     ),
   )

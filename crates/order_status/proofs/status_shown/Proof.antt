@@ -1,4 +1,3 @@
-use lib.ListN.{length}
 use Rattle.order_status.proofs.Stages.{whole, turned-call, refusal-is, ready, order-high, shown-customer, shown-answer, shown-order, shown-part}
 use Rattle.rows.proofs.RowTests.{shaped-booked}
 use Rattle.layout.proofs.Heads.{head-read, head-damaged}
@@ -6,7 +5,7 @@ use Rattle.model.proofs.TestLaws.{staged-head}
 use Rattle.model.specs.Names.{whoOf}
 use Rattle.model.specs.Head.{dims, headOk}
 use Rattle.model.specs.OrderStatus.{statusAsked, statusUsed, statusFault}
-use Prim.Native.Nat.{_-_}
+use lib.ListN.{length}
 use mathlib.Core.Path.{_≡_, ap, _∙_}
 use native.Mathlib.Omega.{arith}
 use borrow.Author.Needs.{needs}
@@ -39,9 +38,9 @@ turned-away-requires c κs = search needs
 returns : tie.Need-returns
 unfolding statusFault
 returns c =
-    let b = c .before .before .before .before .before .before .before .args .b .now in let names = c .before .before .before .before .before .before .before .args .names .now in let q = c .before .before .before .before .before .before .before .args .q in let w = whoOf (c .before .before .before .before .before .before .before .args .who) (c .before .before .before .before .before .before .before .args .name .now) in
+    let b = c .before .before .before .before .before .before .before .args .b .now in let names = c .before .before .before .before .before .before .before .args .names .now in let last = c .before .before .before .before .before .before .before .args .last .now in let q = c .before .before .before .before .before .before .before .args .q in let w = whoOf (c .before .before .before .before .before .before .before .args .who) (c .before .before .before .before .before .before .before .args .name .now) in
     let z : c .before .refused .result .number ≡ 2 = ap (λ r. r .number) (c .before .refused .ensures) in
-    turned-call b names q w (c .before .refused .ensures ∙ staged-head (headOk b (length names)) (statusAsked (dims b) q w) (statusUsed (dims b) b names q w) (head-damaged b (length names) (c .before .before .before .before .head-of .ensures) (c .before .before .enum-told .given .1))) (λ y. omega (arith, z, y)) (c .turned-away .ensures .0) (c .turned-away .ensures .1)
+    turned-call b names last q w (c .before .refused .ensures ∙ staged-head (headOk b (length names)) (statusAsked (dims b) q w) (statusUsed (dims b) b names last q w) (head-damaged b (length names) (c .before .before .before .before .head-of .ensures) (c .before .before .enum-told .given .1))) (λ y. omega (arith, z, y)) (c .turned-away .ensures .0) (c .turned-away .ensures .1)
 
 seen-in-requires : tie.Need-seen-in-requires
 seen-in-requires c κs =
@@ -49,26 +48,29 @@ seen-in-requires c κs =
 
 figures-of-requires : tie.Need-figures-of-requires
 figures-of-requires c κs =
-    let v = head-read (c .before .before .before .before .before .before .before .before .before .before .args .b .now) (length (c .before .before .before .before .before .before .before .before .before .before .args .names .now)) (c .before .before .before .before .before .before .before .head-of .ensures) (c .before .before .before .before .before .d .given .1) in
-    let e = whole (c .before .before .before .before .before .before .before .before .before .before .args .b .now) (c .before .before .before .before .before .before .before .before .before .before .args .names .now) (c .before .before .before .before .before .before .before .before .before .before .args .q) (whoOf (c .before .before .before .before .before .before .before .before .before .before .args .who) (c .before .before .before .before .before .before .before .before .before .before .args .name .now)) v (c .before .before .before .seen-in .ensures) in
-    let y = ready _ _ _ _ e (c .if1 .taken) in
-    rw (v .same) (shaped-booked (y .shaped), (y .asked .w, (y .asked .k, (shown-customer _ _ _ _ e (c .if1 .taken), order-high _ _ _ _ e (c .if1 .taken)))))
+    let b = c .before .before .before .before .before .before .before .before .before .before .args .b .now in let names = c .before .before .before .before .before .before .before .before .before .before .args .names .now in let last = c .before .before .before .before .before .before .before .before .before .before .args .last .now in let q = c .before .before .before .before .before .before .before .before .before .before .args .q in let w = whoOf (c .before .before .before .before .before .before .before .before .before .before .args .who) (c .before .before .before .before .before .before .before .before .before .before .args .name .now) in
+    let v = head-read b (length names) (c .before .before .before .before .before .before .before .head-of .ensures) (c .before .before .before .before .before .d .given .1) in
+    let e = whole b names last q w v (c .before .before .before .seen-in .ensures) in
+    let y = ready b names last q w e (c .if1 .taken) in
+    rw (v .same) (shaped-booked (y .shaped), (y .asked .w, (y .asked .k, (shown-customer b names last q w e (c .if1 .taken), order-high b names last q w e (c .if1 .taken)))))
 
 part-of-requires : tie.Need-part-of-requires
 part-of-requires c κs =
-    let v = head-read (c .before .before .before .before .before .before .before .before .before .before .before .args .b .now) (length (c .before .before .before .before .before .before .before .before .before .before .before .args .names .now)) (c .before .before .before .before .before .before .before .before .head-of .ensures) (c .before .before .before .before .before .before .d .given .1) in
-    let e = whole (c .before .before .before .before .before .before .before .before .before .before .before .args .b .now) (c .before .before .before .before .before .before .before .before .before .before .before .args .names .now) (c .before .before .before .before .before .before .before .before .before .before .before .args .q) (whoOf (c .before .before .before .before .before .before .before .before .before .before .before .args .who) (c .before .before .before .before .before .before .before .before .before .before .before .args .name .now)) v (c .before .before .before .before .seen-in .ensures) in
-    let y = ready _ _ _ _ e (c .before .if1 .taken) in
-    rw (v .same) (shaped-booked (y .shaped), (y .asked .w, (y .asked .k, (order-high _ _ _ _ e (c .before .if1 .taken), λ n. let x = shown-order _ _ _ _ e (c .before .if1 .taken) n in record { lo = x .count-low; hi = x .count-high }))))
+    let b = c .before .before .before .before .before .before .before .before .before .before .before .args .b .now in let names = c .before .before .before .before .before .before .before .before .before .before .before .args .names .now in let last = c .before .before .before .before .before .before .before .before .before .before .before .args .last .now in let q = c .before .before .before .before .before .before .before .before .before .before .before .args .q in let w = whoOf (c .before .before .before .before .before .before .before .before .before .before .before .args .who) (c .before .before .before .before .before .before .before .before .before .before .before .args .name .now) in
+    let v = head-read b (length names) (c .before .before .before .before .before .before .before .before .head-of .ensures) (c .before .before .before .before .before .before .d .given .1) in
+    let e = whole b names last q w v (c .before .before .before .before .seen-in .ensures) in
+    let y = ready b names last q w e (c .before .if1 .taken) in
+    rw (v .same) (shaped-booked (y .shaped), (y .asked .w, (y .asked .k, (order-high b names last q w e (c .before .if1 .taken), λ n. let x = shown-order b names last q w e (c .before .if1 .taken) n in record { lo = x .count-low; hi = x .count-high }))))
 
 returns-2 : tie.Need-returns-2
 returns-2 c =
-    let v = head-read (c .before .before .before .before .before .before .before .before .before .before .before .before .args .b .now) (length (c .before .before .before .before .before .before .before .before .before .before .before .before .args .names .now)) (c .before .before .before .before .before .before .before .before .before .head-of .ensures) (c .before .before .before .before .before .before .before .d .given .1) in
-    let e = whole (c .before .before .before .before .before .before .before .before .before .before .before .before .args .b .now) (c .before .before .before .before .before .before .before .before .before .before .before .before .args .names .now) (c .before .before .before .before .before .before .before .before .before .before .before .before .args .q) (whoOf (c .before .before .before .before .before .before .before .before .before .before .before .before .args .who) (c .before .before .before .before .before .before .before .before .before .before .before .before .args .name .now)) v (c .before .before .before .before .before .seen-in .ensures) in
+    let b = c .before .before .before .before .before .before .before .before .before .before .before .before .args .b .now in let names = c .before .before .before .before .before .before .before .before .before .before .before .before .args .names .now in let last = c .before .before .before .before .before .before .before .before .before .before .before .before .args .last .now in let q = c .before .before .before .before .before .before .before .before .before .before .before .before .args .q in let w = whoOf (c .before .before .before .before .before .before .before .before .before .before .before .before .args .who) (c .before .before .before .before .before .before .before .before .before .before .before .before .args .name .now) in
+    let v = head-read b (length names) (c .before .before .before .before .before .before .before .before .before .head-of .ensures) (c .before .before .before .before .before .before .before .d .given .1) in
+    let e = whole b names last q w v (c .before .before .before .before .before .seen-in .ensures) in
     record {
-      says = rw (c .before .figures-of .ensures .0, c .before .figures-of .ensures .1 .0, c .before .figures-of .ensures .1 .1, v .same) (shown-answer _ _ _ _ e (c .before .before .if1 .taken));
+      says = rw (c .before .figures-of .ensures .0, c .before .figures-of .ensures .1 .0, c .before .figures-of .ensures .1 .1, v .same) (shown-answer b names last q w e (c .before .before .if1 .taken));
       within = c .part-of .ensures .0;
-      shows = c .part-of .ensures .1 ∙ rw (v .same) (shown-part _ _ _ _ e (c .before .before .if1 .taken));
+      shows = c .part-of .ensures .1 ∙ rw (v .same) (shown-part b names last q w e (c .before .before .if1 .taken));
     }
 
 turned-away-requires-2 : tie.Need-turned-away-requires-2
@@ -76,9 +78,10 @@ turned-away-requires-2 c κs = search needs
 
 returns-3 : tie.Need-returns-3
 returns-3 c =
-    let v = head-read (c .before .before .before .before .before .before .before .before .before .before .before .args .b .now) (length (c .before .before .before .before .before .before .before .before .before .before .before .args .names .now)) (c .before .before .before .before .before .before .before .before .head-of .ensures) (c .before .before .before .before .before .before .d .given .1) in
-    let e = whole (c .before .before .before .before .before .before .before .before .before .before .before .args .b .now) (c .before .before .before .before .before .before .before .before .before .before .before .args .names .now) (c .before .before .before .before .before .before .before .before .before .before .before .args .q) (whoOf (c .before .before .before .before .before .before .before .before .before .before .before .args .who) (c .before .before .before .before .before .before .before .before .before .before .before .args .name .now)) v (c .before .before .before .before .seen-in .ensures) in
-    turned-call (c .before .before .before .before .before .before .before .before .before .before .before .args .b .now) (c .before .before .before .before .before .before .before .before .before .before .before .args .names .now) (c .before .before .before .before .before .before .before .before .before .before .before .args .q) (whoOf (c .before .before .before .before .before .before .before .before .before .before .before .args .who) (c .before .before .before .before .before .before .before .before .before .before .before .args .name .now)) (refusal-is _ _ _ _ e) (c .before .if1 .left) (c .turned-away2 .ensures .0) (c .turned-away2 .ensures .1)
+    let b = c .before .before .before .before .before .before .before .before .before .before .before .args .b .now in let names = c .before .before .before .before .before .before .before .before .before .before .before .args .names .now in let last = c .before .before .before .before .before .before .before .before .before .before .before .args .last .now in let q = c .before .before .before .before .before .before .before .before .before .before .before .args .q in let w = whoOf (c .before .before .before .before .before .before .before .before .before .before .before .args .who) (c .before .before .before .before .before .before .before .before .before .before .before .args .name .now) in
+    let v = head-read b (length names) (c .before .before .before .before .before .before .before .before .head-of .ensures) (c .before .before .before .before .before .before .d .given .1) in
+    let e = whole b names last q w v (c .before .before .before .before .seen-in .ensures) in
+    turned-call b names last q w (refusal-is b names last q w e) (c .before .if1 .left) (c .turned-away2 .ensures .0) (c .turned-away2 .ensures .1)
 
 pub status-shown-spec : {M : Type 1} → statement M
 status-shown-spec =

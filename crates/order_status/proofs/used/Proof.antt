@@ -1,20 +1,25 @@
-use borrow.Author.Tests.{not-true, not-false}
-use Rattle.order_status.proofs.Stages.{scan-unfit, scan-fine, scan-last}
-use Rattle.model.specs.OrderStatus.{statusUsed, statusCustomer, statusOrder, lastOrder}
-use Rattle.model.specs.Used.{ordersUsed}
+use Rattle.order_status.proofs.Stages.{seen-none, seen-all, who-is, who-in, number-is, fitting, number-high, number-low}
+use Rattle.last_orders.proofs.Fitting.{two-as-one}
+use Rattle.model.proofs.TestLaws.{turned-away, passed-on}
+use Rattle.model.specs.Tests.{bare}
+use Rattle.model.specs.Names.{whoOf, isFound}
+use Rattle.model.specs.LastOrder.{lastLong, lastOk, foundOk}
+use Rattle.model.specs.OrderStatus.{statusUsed}
 use Rattle.rows.proofs.RowTests.{shaped-booked}
-use Prim.Native.Nat.{_-_}
-use mathlib.Core.Path.{sym, _∙_}
+use mathlib.Core.Path.{refl, sym, ap, _∙_}
+use native.Mathlib.Omega.{arith}
+use borrow.Author.Tests.{not-false}
 use borrow.Author.Needs.{needs}
 use Rattle.order_status.proofs.used.Statement.{statement}
 use Rattle.order_status.proofs.used.Tie as tie
 use Rattle.order_status.proofs.used.Reads as reads
 use Rattle.order_status.proofs.used.Lts as lts
 use Rattle.cells.proofs.refused.Reads as refused-reads
+use Rattle.last_orders.proofs.fits.Reads as fits-reads
+use Rattle.last_orders.proofs.last_of.Reads as last-of-reads
 use Rattle.order_status.proofs.customer_of.Reads as customer-of-reads
+use Rattle.order_status.proofs.found_ok.Reads as found-ok-reads
 use Rattle.order_status.proofs.nothing_seen.Reads as nothing-seen-reads
-use Rattle.order_status.proofs.number_of.Reads as number-of-reads
-use Rattle.order_status.proofs.orders_scanned.Reads as orders-scanned-reads
 use Rattle.order_status.proofs.who_used.Reads as who-used-reads
 use Rattle.rows.proofs.district_used.Reads as district-used-reads
 
@@ -27,7 +32,7 @@ nothing-seen-requires c κs = search needs
 returns : tie.Need-returns
 unfolding statusUsed
 returns c =
-    c .nothing-seen .ensures ∙ simp (← c .before .before .district-used .ensures, not-true (c .before .before .district-used .result) (c .before .if1 .taken))
+    seen-none _ _ (bare 9) refl (turned-away 9 _ (c .before .before .district-used .ensures) (c .before .if1 .taken) refl) (c .nothing-seen .ensures)
 
 who-used-requires : tie.Need-who-used-requires
 who-used-requires c κs = search needs
@@ -38,26 +43,10 @@ nothing-seen-requires-2 c κs = search needs
 returns-2 : tie.Need-returns-2
 unfolding statusUsed
 returns-2 c =
-    c .nothing-seen2 .ensures ∙ simp (← c .before .before .before .before .district-used .ensures, not-false (c .before .before .before .before .district-used .result) (c .before .before .before .if1 .left), ← c .before .before .who-used .ensures, not-true (c .before .before .who-used .result) (c .before .if2 .taken))
+    seen-none _ _ (bare 9) refl (passed-on 9 _ (c .before .before .before .before .district-used .ensures) (c .before .before .before .if1 .left) (turned-away 9 _ (c .before .before .who-used .ensures) (c .before .if2 .taken) refl)) (c .nothing-seen2 .ensures)
 
 customer-of-requires : tie.Need-customer-of-requires
 customer-of-requires c κs = search needs
-
-number-of-requires : tie.Need-number-of-requires
-number-of-requires c κs = search needs
-
-orders-scanned-requires : tie.Need-orders-scanned-requires
-orders-scanned-requires c κs =
-    (shaped-booked (c .before .before .before .before .before .before .before .before .pre .0), (c .before .before .before .before .before .before .before .before .pre .1 .w, (c .before .before .before .before .before .before .before .before .pre .1 .k, sym (c .before .before .before .before .before .district-used .ensures) ∙ not-false (c .before .before .before .before .before .district-used .result) (c .before .before .before .before .if1 .left))))
-
-nothing-seen-requires-3 : tie.Need-nothing-seen-requires-3
-nothing-seen-requires-3 c κs = search needs
-
-returns-3 : tie.Need-returns-3
-unfolding statusUsed
-returns-3 c =
-    let d = c .before .before .before .before .before .before .before .before .before .before .before .before .args .d in let b = c .before .before .before .before .before .before .before .before .before .before .before .before .args .b .now in let w = c .before .before .before .before .before .before .before .before .before .before .before .before .args .q .warehouse in let k = c .before .before .before .before .before .before .before .before .before .before .before .before .args .q .district in
-    c .nothing-seen3 .ensures ∙ simp (← c .before .before .before .before .before .before .before .before .before .district-used .ensures, not-false (c .before .before .before .before .before .before .before .before .before .district-used .result) (c .before .before .before .before .before .before .before .before .if1 .left), ← c .before .before .before .before .before .before .before .who-used .ensures, not-false (c .before .before .before .before .before .before .before .who-used .result) (c .before .before .before .before .before .before .if2 .left), scan-unfit (ordersUsed d b w k) (lastOrder d b w k (c .before .before .before .before .number-of .result)) (c .before .before .before .orders-scanned .ensures) (c .before .if3 .taken))
 
 enum-known-found : tie.Need-enum-known-found
 enum-known-found c = search needs
@@ -65,23 +54,50 @@ enum-known-found c = search needs
 enum-told : tie.Need-enum-told
 enum-told c = search needs
 
+nothing-seen-requires-3 : tie.Need-nothing-seen-requires-3
+nothing-seen-requires-3 c κs = search needs
+
+returns-3 : tie.Need-returns-3
+unfolding statusUsed
+returns-3 c =
+    seen-none _ _ (bare 10) refl (passed-on 9 _ (c .before .before .before .before .before .before .before .district-used .ensures) (c .before .before .before .before .before .before .if1 .left) (passed-on 9 _ (c .before .before .before .before .before .who-used .ensures) (c .before .before .before .before .if2 .left) (turned-away 10 _ (ap isFound (c .before .before .before .customer-of .ensures)) (rw (c .before .enum-told .given .1)) refl))) (c .nothing-seen3 .ensures)
+
+fits-requires : tie.Need-fits-requires
+fits-requires c κs =
+    (shaped-booked (c .before .before .before .before .before .before .before .before .before .before .pre .0), (c .before .before .before .before .before .before .before .before .before .before .pre .1 .w, (c .before .before .before .before .before .before .before .before .before .before .pre .1 .k, sym (c .before .before .before .before .before .before .before .district-used .ensures) ∙ not-false (c .before .before .before .before .before .before .before .district-used .result) (c .before .before .before .before .before .before .if1 .left))))
+
 nothing-seen-requires-4 : tie.Need-nothing-seen-requires-4
 nothing-seen-requires-4 c κs = search needs
 
 returns-4 : tie.Need-returns-4
 unfolding statusUsed
 returns-4 c =
-    let d = c .before .before .before .before .before .before .before .before .before .before .before .before .before .before .args .d in let b = c .before .before .before .before .before .before .before .before .before .before .before .before .before .before .args .b .now in let w = c .before .before .before .before .before .before .before .before .before .before .before .before .before .before .args .q .warehouse in let k = c .before .before .before .before .before .before .before .before .before .before .before .before .before .before .args .q .district in
-    c .nothing-seen4 .ensures ∙ simp (← c .before .before .before .before .before .before .before .before .before .before .before .district-used .ensures, not-false (c .before .before .before .before .before .before .before .before .before .before .before .district-used .result) (c .before .before .before .before .before .before .before .before .before .before .if1 .left), ← c .before .before .before .before .before .before .before .before .before .who-used .ensures, not-false (c .before .before .before .before .before .before .before .before .before .who-used .result) (c .before .before .before .before .before .before .before .before .if2 .left), scan-fine (ordersUsed d b w k) (lastOrder d b w k (c .before .before .before .before .before .before .number-of .result)) (c .before .before .before .before .before .orders-scanned .ensures) (c .before .before .before .if3 .left), ← c .before .before .before .before .before .before .before .customer-of .ensures, c .before .enum-told .given .1)
+    seen-none _ _ (bare 13) refl (passed-on 9 _ (c .before .before .before .before .before .before .before .before .before .before .district-used .ensures) (c .before .before .before .before .before .before .before .before .before .if1 .left) (passed-on 9 _ (c .before .before .before .before .before .before .before .before .who-used .ensures) (c .before .before .before .before .before .before .before .if2 .left) (passed-on 10 _ (ap isFound (c .before .before .before .before .before .before .customer-of .ensures)) (rw (c .before .before .before .before .found .given .1)) (turned-away 13 _ (c .before .before .fits2 .ensures) (c .before .if3 .taken) refl ∙ two-as-one (lastLong (c .before .before .before .before .before .before .before .before .before .before .before .before .before .args .d) (c .before .before .before .before .before .before .before .before .before .before .before .before .before .args .last .now)) (lastOk (c .before .before .before .before .before .before .before .before .before .before .before .before .before .args .d) (c .before .before .before .before .before .before .before .before .before .before .before .before .before .args .b .now) (c .before .before .before .before .before .before .before .before .before .before .before .before .before .args .last .now) (c .before .before .before .before .before .before .before .before .before .before .before .before .before .args .q .warehouse) (c .before .before .before .before .before .before .before .before .before .before .before .before .before .args .q .district)) _ (bare 13))))) (c .nothing-seen4 .ensures)
+
+last-of-requires : tie.Need-last-of-requires
+last-of-requires c κs =
+    let r = who-in (c .before .before .before .before .before .before .before .before .before .before .before .before .args .d) (c .before .before .before .before .before .before .before .before .before .before .before .before .args .names .now) (c .before .before .before .before .before .before .before .before .before .before .before .before .args .last .now) (c .before .before .before .before .before .before .before .before .before .before .before .before .args .q) (whoOf (c .before .before .before .before .before .before .before .before .before .before .before .before .args .who) (c .before .before .before .before .before .before .before .before .before .before .before .before .args .name .now)) (c .before .before .before .before .before .customer-of .ensures) (c .before .before .before .found .given .1) (c .before .before .before .before .before .before .before .before .before .before .before .before .pre .1 .who-ok) in
+    (c .before .before .before .before .before .before .before .before .before .before .before .before .pre .0 .dimsd, (c .before .before .before .before .before .before .before .before .before .before .before .before .pre .1 .w, (c .before .before .before .before .before .before .before .before .before .before .before .before .pre .1 .k, (omega (arith, r), (fitting (c .before .before .before .before .before .before .before .before .before .before .before .before .args .d) (c .before .before .before .before .before .before .before .before .before .before .before .before .args .b .now) (c .before .before .before .before .before .before .before .before .before .before .before .before .args .last .now) (c .before .before .before .before .before .before .before .before .before .before .before .before .args .q .warehouse) (c .before .before .before .before .before .before .before .before .before .before .before .before .args .q .district) (c .before .before .before .before .before .before .before .before .before .district-used .ensures) (c .before .before .before .before .before .before .before .before .if1 .left) (c .before .fits2 .ensures) (c .if3 .left) .long, number-low (c .before .before .before .before .before .before .before .before .before .before .before .before .args .d) (c .before .before .before .before .before .before .before .before .before .before .before .before .args .b .now) (c .before .before .before .before .before .before .before .before .before .before .before .before .args .last .now) (c .before .before .before .before .before .before .before .before .before .before .before .before .args .q .warehouse) (c .before .before .before .before .before .before .before .before .before .before .before .before .args .q .district) (c .before .before .before .before .before .before .before .before .before .district-used .ensures) (c .before .before .before .before .before .before .before .before .if1 .left) (c .before .fits2 .ensures) (c .if3 .left) _ (c .before .before .before .before .before .before .before .before .before .before .before .before .pre .0 .dimsd) (omega (arith, r)))))))
+
+found-ok-requires : tie.Need-found-ok-requires
+found-ok-requires c κs =
+    (shaped-booked (c .before .before .before .before .before .before .before .before .before .before .before .before .before .pre .0), (c .before .before .before .before .before .before .before .before .before .before .before .before .before .pre .1 .w, (c .before .before .before .before .before .before .before .before .before .before .before .before .before .pre .1 .k, rw (c .last-of .ensures) (number-high (c .before .before .before .before .before .before .before .before .before .before .before .before .before .args .d) (c .before .before .before .before .before .before .before .before .before .before .before .before .before .args .b .now) (c .before .before .before .before .before .before .before .before .before .before .before .before .before .args .last .now) (c .before .before .before .before .before .before .before .before .before .before .before .before .before .args .q .warehouse) (c .before .before .before .before .before .before .before .before .before .before .before .before .before .args .q .district) (c .before .before .before .before .before .before .before .before .before .before .district-used .ensures) (c .before .before .before .before .before .before .before .before .before .if1 .left) (c .before .before .fits2 .ensures) (c .before .if3 .left) _ (omega (arith, who-in (c .before .before .before .before .before .before .before .before .before .before .before .before .before .args .d) (c .before .before .before .before .before .before .before .before .before .before .before .before .before .args .names .now) (c .before .before .before .before .before .before .before .before .before .before .before .before .before .args .last .now) (c .before .before .before .before .before .before .before .before .before .before .before .before .before .args .q) (whoOf (c .before .before .before .before .before .before .before .before .before .before .before .before .before .args .who) (c .before .before .before .before .before .before .before .before .before .before .before .before .before .args .name .now)) (c .before .before .before .before .before .before .customer-of .ensures) (c .before .before .before .before .found .given .1) (c .before .before .before .before .before .before .before .before .before .before .before .before .before .pre .1 .who-ok)))))))
+
+nothing-seen-requires-5 : tie.Need-nothing-seen-requires-5
+nothing-seen-requires-5 c κs = search needs
+
+returns-5 : tie.Need-returns-5
+unfolding statusUsed
+returns-5 c =
+    seen-none _ _ (bare 13) refl (passed-on 9 _ (c .before .before .before .before .before .before .before .before .before .before .before .before .before .district-used .ensures) (c .before .before .before .before .before .before .before .before .before .before .before .before .if1 .left) (passed-on 9 _ (c .before .before .before .before .before .before .before .before .before .before .before .who-used .ensures) (c .before .before .before .before .before .before .before .before .before .before .if2 .left) (passed-on 10 _ (ap isFound (c .before .before .before .before .before .before .before .before .before .customer-of .ensures)) (rw (c .before .before .before .before .before .before .before .found .given .1)) (passed-on 13 _ (c .before .before .before .before .before .fits2 .ensures) (c .before .before .before .before .if3 .left) (turned-away 13 _ (c .before .before .found-ok .ensures ∙ ap (foundOk (c .before .before .before .before .before .before .before .before .before .before .before .before .before .before .before .before .args .d) (c .before .before .before .before .before .before .before .before .before .before .before .before .before .before .before .before .args .b .now) (c .before .before .before .before .before .before .before .before .before .before .before .before .before .before .before .before .args .q .warehouse) (c .before .before .before .before .before .before .before .before .before .before .before .before .before .before .before .before .args .q .district)) (number-is (c .before .before .before .before .before .before .before .before .before .before .before .before .before .before .before .before .args .d) (c .before .before .before .before .before .before .before .before .before .before .before .before .before .before .before .before .args .names .now) (c .before .before .before .before .before .before .before .before .before .before .before .before .before .before .before .before .args .last .now) (c .before .before .before .before .before .before .before .before .before .before .before .before .before .before .before .before .args .q) (whoOf (c .before .before .before .before .before .before .before .before .before .before .before .before .before .before .before .before .args .who) (c .before .before .before .before .before .before .before .before .before .before .before .before .before .before .before .before .args .name .now)) (c .before .before .before .before .before .before .before .before .before .customer-of .ensures) (c .before .before .before .before .before .before .before .found .given .1) (c .before .before .before .last-of .ensures))) (c .before .if4 .taken) refl) ∙ two-as-one (lastLong (c .before .before .before .before .before .before .before .before .before .before .before .before .before .before .before .before .args .d) (c .before .before .before .before .before .before .before .before .before .before .before .before .before .before .before .before .args .last .now)) (lastOk (c .before .before .before .before .before .before .before .before .before .before .before .before .before .before .before .before .args .d) (c .before .before .before .before .before .before .before .before .before .before .before .before .before .before .before .before .args .b .now) (c .before .before .before .before .before .before .before .before .before .before .before .before .before .before .before .before .args .last .now) (c .before .before .before .before .before .before .before .before .before .before .before .before .before .before .before .before .args .q .warehouse) (c .before .before .before .before .before .before .before .before .before .before .before .before .before .before .before .before .args .q .district)) _ (bare 13))))) (c .nothing-seen5 .ensures)
 
 refused-requires : tie.Need-refused-requires
 refused-requires c κs = search needs
 
-returns-5 : tie.Need-returns-5
-unfolding statusUsed statusCustomer statusOrder
-returns-5 c =
-    let d = c .before .before .before .before .before .before .before .before .before .before .before .before .before .before .before .args .d in let b = c .before .before .before .before .before .before .before .before .before .before .before .before .before .before .before .args .b .now in let w = c .before .before .before .before .before .before .before .before .before .before .before .before .before .before .before .args .q .warehouse in let k = c .before .before .before .before .before .before .before .before .before .before .before .before .before .before .before .args .q .district in
-    simp (c .refused .ensures, ← c .before .before .before .before .before .before .before .before .before .before .before .before .district-used .ensures, not-false (c .before .before .before .before .before .before .before .before .before .before .before .before .district-used .result) (c .before .before .before .before .before .before .before .before .before .before .before .if1 .left), ← c .before .before .before .before .before .before .before .before .before .before .who-used .ensures, not-false (c .before .before .before .before .before .before .before .before .before .before .who-used .result) (c .before .before .before .before .before .before .before .before .before .if2 .left), scan-fine (ordersUsed d b w k) (lastOrder d b w k (c .before .before .before .before .before .before .before .number-of .result)) (c .before .before .before .before .before .before .orders-scanned .ensures) (c .before .before .before .before .if3 .left), scan-last (ordersUsed d b w k) (lastOrder d b w k (c .before .before .before .before .before .before .before .number-of .result)) (c .before .before .before .before .before .before .orders-scanned .ensures) (c .before .before .before .before .if3 .left), c .before .before .before .before .before .before .before .number-of .ensures, ← c .before .before .before .before .before .before .before .before .customer-of .ensures, c .before .before .found .given .1)
+returns-6 : tie.Need-returns-6
+unfolding statusUsed
+returns-6 c =
+    seen-all (c .refused .ensures) (passed-on 9 _ (c .before .before .before .before .before .before .before .before .before .before .before .before .before .district-used .ensures) (c .before .before .before .before .before .before .before .before .before .before .before .before .if1 .left) (passed-on 9 _ (c .before .before .before .before .before .before .before .before .before .before .before .who-used .ensures) (c .before .before .before .before .before .before .before .before .before .before .if2 .left) (passed-on 10 _ (ap isFound (c .before .before .before .before .before .before .before .before .before .customer-of .ensures)) (rw (c .before .before .before .before .before .before .before .found .given .1)) (passed-on 13 _ (c .before .before .before .before .before .fits2 .ensures) (c .before .before .before .before .if3 .left) (passed-on 13 _ (c .before .before .found-ok .ensures ∙ ap (foundOk (c .before .before .before .before .before .before .before .before .before .before .before .before .before .before .before .before .args .d) (c .before .before .before .before .before .before .before .before .before .before .before .before .before .before .before .before .args .b .now) (c .before .before .before .before .before .before .before .before .before .before .before .before .before .before .before .before .args .q .warehouse) (c .before .before .before .before .before .before .before .before .before .before .before .before .before .before .before .before .args .q .district)) (number-is (c .before .before .before .before .before .before .before .before .before .before .before .before .before .before .before .before .args .d) (c .before .before .before .before .before .before .before .before .before .before .before .before .before .before .before .before .args .names .now) (c .before .before .before .before .before .before .before .before .before .before .before .before .before .before .before .before .args .last .now) (c .before .before .before .before .before .before .before .before .before .before .before .before .before .before .before .before .args .q) (whoOf (c .before .before .before .before .before .before .before .before .before .before .before .before .before .before .before .before .args .who) (c .before .before .before .before .before .before .before .before .before .before .before .before .before .before .before .before .args .name .now)) (c .before .before .before .before .before .before .before .before .before .customer-of .ensures) (c .before .before .before .before .before .before .before .found .given .1) (c .before .before .before .last-of .ensures))) (c .before .if4 .left) (c .refused .ensures)) ∙ two-as-one (lastLong (c .before .before .before .before .before .before .before .before .before .before .before .before .before .before .before .before .args .d) (c .before .before .before .before .before .before .before .before .before .before .before .before .before .before .before .before .args .last .now)) (lastOk (c .before .before .before .before .before .before .before .before .before .before .before .before .before .before .before .before .args .d) (c .before .before .before .before .before .before .before .before .before .before .before .before .before .before .before .before .args .b .now) (c .before .before .before .before .before .before .before .before .before .before .before .before .before .before .before .before .args .last .now) (c .before .before .before .before .before .before .before .before .before .before .before .before .before .before .before .before .args .q .warehouse) (c .before .before .before .before .before .before .before .before .before .before .before .before .before .before .before .before .args .q .district)) _ (bare 13))))) (who-is (c .before .before .before .before .before .before .before .before .before .before .before .before .before .before .before .before .args .d) (c .before .before .before .before .before .before .before .before .before .before .before .before .before .before .before .before .args .names .now) (c .before .before .before .before .before .before .before .before .before .before .before .before .before .before .before .before .args .last .now) (c .before .before .before .before .before .before .before .before .before .before .before .before .before .before .before .before .args .q) (whoOf (c .before .before .before .before .before .before .before .before .before .before .before .before .before .before .before .before .args .who) (c .before .before .before .before .before .before .before .before .before .before .before .before .before .before .before .before .args .name .now)) (c .before .before .before .before .before .before .before .before .before .customer-of .ensures) (c .before .before .before .before .before .before .before .found .given .1)) (number-is (c .before .before .before .before .before .before .before .before .before .before .before .before .before .before .before .before .args .d) (c .before .before .before .before .before .before .before .before .before .before .before .before .before .before .before .before .args .names .now) (c .before .before .before .before .before .before .before .before .before .before .before .before .before .before .before .before .args .last .now) (c .before .before .before .before .before .before .before .before .before .before .before .before .before .before .before .before .args .q) (whoOf (c .before .before .before .before .before .before .before .before .before .before .before .before .before .before .before .before .args .who) (c .before .before .before .before .before .before .before .before .before .before .before .before .before .before .before .before .args .name .now)) (c .before .before .before .before .before .before .before .before .before .customer-of .ensures) (c .before .before .before .before .before .before .before .found .given .1) (c .before .before .before .last-of .ensures))
 
 pub used-spec : {M : Type 1} → statement M
 used-spec =
@@ -94,13 +110,16 @@ used-spec =
     nothing-seen-requires-2
     returns-2
     customer-of-requires
-    number-of-requires
-    orders-scanned-requires
-    nothing-seen-requires-3
-    returns-3
     enum-known-found
     enum-told
+    nothing-seen-requires-3
+    returns-3
+    fits-requires
     nothing-seen-requires-4
     returns-4
+    last-of-requires
+    found-ok-requires
+    nothing-seen-requires-5
+    returns-5
     refused-requires
-    returns-5)
+    returns-6)

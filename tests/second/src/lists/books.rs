@@ -1,5 +1,6 @@
 //! Random books: fresh ones, ones in use, and damaged ones.
 
+use super::last;
 use super::random::Random;
 use crate::layout::{order, order_line, Layout, HEAD, HISTORY_COUNT, NAMES_WIDTH};
 use crate::ranges::{self, Range};
@@ -80,6 +81,7 @@ pub fn fresh(random: &mut Random, layout: Layout) -> Book {
         nums.push(if garbage { anything(random) } else { 0 });
     }
     book.lent.nums = nums;
+    book.lent.last = vec![0; layout.last_orders()];
     book
 }
 
@@ -106,6 +108,7 @@ pub fn in_use(random: &mut Random, layout: Layout) -> Book {
             }
         }
     }
+    book.lent.last = last::scanned(&book.lent.nums, &layout);
     book
 }
 
@@ -130,6 +133,7 @@ pub fn windowed(random: &mut Random) -> Book {
         let start = layout.order(1, district, number).start;
         book.lent.nums[start..start + row.len()].copy_from_slice(&row);
     }
+    book.lent.last = last::scanned(&book.lent.nums, &layout);
     if random.percent(40) {
         let number = 1 + random.below(next as usize);
         let slot = layout.order(1, district, number.min(layout.order_slots));
@@ -185,6 +189,20 @@ pub fn damage(random: &mut Random, book: &mut Book, times: usize) {
             5 => damage_row(random, book, Kind::Order),
             _ => damage_name(random, book),
         }
+    }
+}
+
+/// A fault that New-Order and Order-Status meet just before or just behind the last orders: in the stock or the price of the favoured item, in the
+/// favoured customer's row, or a full district.
+pub fn damage_beside(random: &mut Random, book: &mut Book) {
+    let (layout, at) = (book.layout, book.focus);
+    let nums = &mut book.lent.nums;
+    match random.below(5) {
+        0 => nums[layout.stock(at.warehouse, at.item)][random.below(4)] = -1,
+        1 => nums[layout.price(at.item)] = 100_000,
+        2 => nums[layout.price(at.item)] = 0,
+        3 => nums[layout.customer(at.warehouse, at.district, at.customer)][2] = i64::MIN,
+        _ => nums[layout.district(at.warehouse, at.district)][2] = layout.order_slots as i64 + 1,
     }
 }
 
@@ -265,7 +283,8 @@ pub fn misfit(random: &mut Random) -> Option<Lent> {
     let rest = if random.percent(50) { 1 } else { 0 };
     nums.resize(numbers.max(6), rest);
     nums[5] = 0;
-    Some(Lent { nums, names })
+    let last = vec![0; names.len() / NAMES_WIDTH];
+    Some(Lent { nums, names, last })
 }
 
 /// Numbers and names of any length with any values, behind a head that is sometimes sound.
@@ -278,7 +297,9 @@ pub fn chaos(random: &mut Random) -> Lent {
     }
     let names = (0..random.below(70)).map(|_| random.number() as u8);
     let names = names.collect();
-    Lent { nums, names }
+    let last = (0..random.below(30)).map(|_| anything(random));
+    let last = last.collect();
+    Lent { nums, names, last }
 }
 
 /// The kinds of rows that calls use.
@@ -384,8 +405,8 @@ fn blank(random: &mut Random, layout: Layout) -> Book {
         item: 1 + random.below(layout.items),
     };
     let lent = Lent {
-        nums: Vec::new(),
         names,
+        ..Lent::default()
     };
     Book {
         layout,

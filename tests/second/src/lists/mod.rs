@@ -2,6 +2,7 @@
 
 pub mod book_lines;
 pub mod books;
+pub mod last;
 pub mod random;
 pub mod requests;
 pub mod stats;
@@ -18,12 +19,26 @@ const BY_NAME: [usize; 5] = [10, 45, 5, 40, 0];
 const READERS_OF_ORDERS: [usize; 5] = [10, 5, 30, 30, 25];
 const WINDOWS: [usize; 5] = [25, 0, 5, 10, 60];
 const EACH: [usize; 5] = [20, 20, 20, 20, 20];
+const LAST_ORDERS: [usize; 5] = [40, 4, 4, 48, 4];
+const HISTORY: [usize; 5] = [50, 5, 10, 30, 5];
+
+/// In so many lists at the start of a run no command sets the last orders: they are made anew with each book.
+const UNSET: u64 = 60;
 
 /// The list with this number of the run with this seed.
 pub fn list(seed: u64, number: u64) -> String {
     let mixed = Random::new(seed).number() ^ number.wrapping_mul(0xd134_2543_de82_ef95);
-    let random = &mut Random::new(mixed);
-    match random.weighted(&[26, 8, 25, 9, 8, 8, 10, 3, 3]) {
+    let text = any_list(&mut Random::new(mixed));
+    if number >= UNSET {
+        return text;
+    }
+    let kept = text.split_inclusive('\n');
+    kept.filter(|line| !line.starts_with("SLICE last"))
+        .collect()
+}
+
+fn any_list(random: &mut Random) -> String {
+    match random.weighted(&[22, 6, 18, 7, 6, 7, 7, 3, 3, 14, 7, 4]) {
         0 => opened(random),
         1 => filled(random),
         2 => never_opened(random),
@@ -32,7 +47,10 @@ pub fn list(seed: u64, number: u64) -> String {
         5 => many_equal_names(random),
         6 => request_lines(random),
         7 => windows(random),
-        _ => chaotic(random),
+        8 => chaotic(random),
+        9 => last_orders(random),
+        10 => neighbours(random),
+        _ => long_history(random),
     }
 }
 
@@ -151,6 +169,67 @@ fn windows(random: &mut Random) -> String {
     text
 }
 
+/// Last orders that are wrong, orders that they name damaged; later perhaps the slice as it was at first.
+fn last_orders(random: &mut Random) -> String {
+    let mut layout = books::dimensions(random);
+    if random.percent(60) {
+        layout.customers = 2 + random.below(5);
+        layout.order_slots = 2 + random.below(8);
+    }
+    let new = random.percent(30);
+    let mut book = match new {
+        true => books::fresh(random, layout),
+        false => books::in_use(random, layout),
+    };
+    for _ in 0..*random.pick(&[0, 1, 1, 1, 2, 3]) {
+        last::damage(random, &mut book);
+    }
+    if random.percent(35) {
+        last::damage_order(random, &mut book);
+    }
+    let mut text = lend(&book.lent);
+    if new {
+        text.push_str("OPEN\n");
+    }
+    let count = 6 + random.below(10);
+    let asker = &mut Asker::new(&book, 30);
+    ask(random, &mut text, asker, &LAST_ORDERS, count);
+    if random.percent(30) {
+        text.push_str(&lend_last(&book.lent));
+        ask(random, &mut text, asker, &LAST_ORDERS, 5);
+    }
+    text
+}
+
+/// Last orders refused by 13, and beside it a fault that comes just before or just behind.
+fn neighbours(random: &mut Random) -> String {
+    let layout = books::dimensions(random);
+    let mut book = match random.below(3) {
+        0 => books::fresh(random, layout),
+        _ => books::in_use(random, layout),
+    };
+    last::damage_for_sure(random, &mut book);
+    books::damage_beside(random, &mut book);
+    let mut text = lend(&book.lent);
+    let asker = &mut Asker::new(&book, 45);
+    ask(random, &mut text, asker, &LAST_ORDERS, 10);
+    text
+}
+
+/// An opened book with room for many orders, and their statuses in between.
+fn long_history(random: &mut Random) -> String {
+    let mut layout = books::dimensions(random);
+    (layout.warehouses, layout.customers) = (1 + random.below(2), 1 + random.below(5));
+    layout.items = layout.items.min(20);
+    layout.order_slots = 15 + random.below(30);
+    let book = books::fresh(random, layout);
+    let mut text = lend(&book.lent);
+    text.push_str("OPEN\n");
+    let asker = &mut Asker::new(&book, 30);
+    ask(random, &mut text, asker, &HISTORY, 80);
+    text
+}
+
 /// Request lines to read and requests to write; the book is not used.
 fn request_lines(random: &mut Random) -> String {
     let mut text = lend(&Lent::default());
@@ -190,15 +269,26 @@ fn ask(
     }
 }
 
-/// The two commands that set the lent slices.
+/// The commands that set the lent slices.
 pub fn lend(lent: &Lent) -> String {
-    let mut text = String::from("SLICE nums");
-    for number in &lent.nums {
+    let names = hex::token(&lent.names);
+    let mut text = slice("nums", &lent.nums);
+    text.push_str(&format!("BYTES names {names}\n"));
+    text.push_str(&lend_last(lent));
+    text
+}
+
+/// The command that sets the last orders.
+fn lend_last(lent: &Lent) -> String {
+    slice("last", &lent.last)
+}
+
+fn slice(name: &str, numbers: &[i64]) -> String {
+    let mut text = format!("SLICE {name}");
+    for number in numbers {
         text.push(' ');
         text.push_str(&number.to_string());
     }
-    text.push_str("\nBYTES names ");
-    text.push_str(&hex::token(&lent.names));
     text.push('\n');
     text
 }

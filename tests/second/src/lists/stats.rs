@@ -1,10 +1,16 @@
 //! How often the random lists reach each answer of each call.
 
-use crate::replay::{Replay, SecondEngine};
+use crate::checks;
+use crate::layout::{district, Layout};
+use crate::replay::command::{parse, Command};
+use crate::replay::{Engine, Lent, Replay, SecondEngine};
+use crate::request::{NewOrder, Request, Who};
+use crate::who::{self, Found};
+use crate::Outcome;
 use std::collections::BTreeMap;
 
 /// Counts of answers, by word and number and, where it tells more, by kind.
-pub type Counts = BTreeMap<(String, u64, &'static str), u64>;
+pub type Counts = BTreeMap<(String, u64, String), u64>;
 
 /// Runs the lists through the second engine and counts the answers.
 pub fn count(seed: u64, lists: u64) -> Counts {
@@ -14,31 +20,146 @@ pub fn count(seed: u64, lists: u64) -> Counts {
         let mut replay = Replay::new(&mut engine);
         for line in super::list(seed, number).lines() {
             if let Some(answer) = replay.step(line.as_bytes()) {
-                *counts.entry(key(&answer)).or_insert(0) += 1;
+                let key = key(&answer, line, &replay.slices.lent);
+                *counts.entry(key).or_insert(0) += 1;
             }
         }
     }
     counts
 }
 
-fn key(answer: &str) -> (String, u64, &'static str) {
+/// Word, number and kind of an answer to a command, which has left the slices so.
+fn key(answer: &str, command: &str, lent: &Lent) -> (String, u64, String) {
     let tokens: Vec<&str> = answer.split(' ').collect();
     let figure = |place: usize| tokens.get(place).and_then(|t| t.parse::<u64>().ok());
     let number = figure(1).unwrap_or(u64::MAX);
     let kind = match (tokens[0], number) {
-        ("S", 0) if figure(4) == Some(0) => "no order",
-        ("S", 0) => "an order",
-        ("D", 0) if figure(2) == Some(10) => "all skipped",
-        ("D", 0) if figure(2) == Some(0) => "none skipped",
-        ("D", 0) => "some skipped",
-        ("L", 0) if figure(2) == Some(0) => "none low",
-        ("L", 0) => "some low",
+        ("N" | "S", 9 | 10 | 13) => beside(number, command, lent),
+        ("N" | "S", 0) => committed(command, lent, figure(2), figure(4)),
+        ("D", 0) if figure(2) == Some(10) => "all skipped".into(),
+        ("D", 0) if figure(2) == Some(0) => "none skipped".into(),
+        ("D", 0) => "some skipped".into(),
+        ("L", 0) if figure(2) == Some(0) => "none low".into(),
+        ("L", 0) => "some low".into(),
         (_, 8 | 12) => match figure(2) {
-            Some(0) => "detail 0",
-            Some(1) => "detail 1",
-            _ => "detail 2 to 15",
+            Some(0) => "detail 0".into(),
+            Some(1) => "detail 1".into(),
+            _ => "detail 2 to 15".into(),
         },
-        _ => "",
+        _ => String::new(),
     };
     (tokens[0].to_string(), number, kind)
+}
+
+/// Whose order is shown, and what was wrong that the call had no business with.
+fn committed(command: &str, lent: &Lent, customer: Option<u64>, order: Option<u64>) -> String {
+    let layout = Layout::of(&lent.nums, &lent.names).expect("a book that was not refused");
+    let Command::Call(Request::OrderStatus(r)) = parse(command.as_bytes()) else {
+        return wrong_elsewhere(lent, &layout)
+            .trim_start_matches(", ")
+            .into();
+    };
+    let place = (r.warehouse as usize, r.district as usize);
+    let order = order.unwrap_or(0) as usize;
+    let kind = match order {
+        0 => "no order",
+        _ => {
+            let buyer = lent.nums[layout.order(place.0, place.1, order).start];
+            let own = customer == u64::try_from(buyer).ok();
+            if own {
+                "an order"
+            } else {
+                "another's order"
+            }
+        }
+    };
+    let orders = checks::orders_from(&lent.nums, &layout, place, 1);
+    let damaged = if checks::orders_in_range(&layout, orders) {
+        ""
+    } else {
+        ", a damaged one not shown"
+    };
+    format!("{kind}{damaged}{}", wrong_elsewhere(lent, &layout))
+}
+
+/// Whether the slice has a number out of range, which is of another district where a call was committed.
+fn wrong_elsewhere(lent: &Lent, layout: &Layout) -> &'static str {
+    let places = (1..=layout.warehouses).flat_map(|w| (1..=10).map(move |d| (w, d)));
+    let outside = |(w, d): (usize, usize)| {
+        let next = lent.nums[layout.district(w, d)][district::NEXT_ORDER];
+        let numbers = &lent.last[layout.last_orders_of(w, d)];
+        numbers.iter().any(|&number| number < 0 || number >= next)
+    };
+    let fits = lent.last.len() == layout.last_orders();
+    if fits && places.into_iter().any(outside) {
+        ", wrong elsewhere"
+    } else {
+        ""
+    }
+}
+
+/// What 13 is answered for and what else would have been; whether 13 fits as well where 9 or 10 is answered.
+fn beside(number: u64, command: &str, lent: &Lent) -> String {
+    let (place, who) = match parse(command.as_bytes()) {
+        Command::Call(Request::NewOrder(r)) => ((r.warehouse, r.district), Who::Number(r.customer)),
+        Command::Call(Request::OrderStatus(r)) => ((r.warehouse, r.district), r.who),
+        _ => return String::new(),
+    };
+    let layout = Layout::of(&lent.nums, &lent.names).expect("a book that was not refused by 2");
+    let place = (place.0 as usize, place.1 as usize);
+    let fault = slice_fault(lent, &layout, place, &who);
+    match (number, fault, parse(command.as_bytes())) {
+        (13, None, _) => "the order found".into(),
+        (13, Some(fault), Command::Call(Request::NewOrder(r))) => {
+            format!("{fault}{}", behind(lent, &layout, &r))
+        }
+        (13, Some(fault), _) => fault.into(),
+        (_, Some(_), _) => "and 13".into(),
+        (_, None, _) => String::new(),
+    }
+}
+
+/// What is wrong with the slice for a call to this district.
+fn slice_fault(
+    lent: &Lent,
+    layout: &Layout,
+    (w, d): (usize, usize),
+    who: &Who,
+) -> Option<&'static str> {
+    let (length, right) = (lent.last.len(), layout.last_orders());
+    match length {
+        0 => return Some("no slice"),
+        _ if length + 1 == right => return Some("one short"),
+        _ if length == right + 1 => return Some("one long"),
+        _ if length == 2 * right => return Some("double"),
+        _ if length != right => return Some("another length"),
+        _ => {}
+    }
+    let next = lent.nums[layout.district(w, d)][district::NEXT_ORDER];
+    let outside = |&&number: &&i64| number < 0 || number >= next;
+    let found = who::find(&lent.names[layout.names_of(w, d)], who);
+    let own = match found {
+        Found::Customer(customer) => lent.last.get(layout.last_order(w, d, customer)),
+        Found::Nobody => None,
+    };
+    let mut others = lent.last[layout.last_orders_of(w, d)].iter();
+    match (own.filter(outside), others.find(outside)) {
+        (Some(number), _) if *number < 0 => Some("own number negative"),
+        (Some(number), _) if *number == next => Some("own number next"),
+        (Some(_), _) => Some("own number above next"),
+        (None, Some(number)) if *number < 0 => Some("another's number negative"),
+        (None, Some(number)) if *number == next => Some("another's number next"),
+        (None, Some(_)) => Some("another's number above next"),
+        (None, None) => None,
+    }
+}
+
+/// The refusal behind 13: what the same order gets with a slice that is all 0.
+fn behind(lent: &Lent, layout: &Layout, order: &NewOrder) -> String {
+    let mut lent = lent.clone();
+    lent.last = vec![0; layout.last_orders()];
+    match SecondEngine.new_order(&mut lent, order) {
+        Outcome::Refused(refusal) => format!(", before {}", refusal.number),
+        Outcome::Committed(_) => String::new(),
+    }
 }

@@ -10,8 +10,7 @@ const LARGEST_BUFFER: u64 = 1 << 24;
 pub enum Command {
     /// An empty line, or what is passed over because it has not landed.
     Nothing,
-    Nums(Vec<i64>),
-    Names(Vec<u8>),
+    Lend(Slice),
     Open,
     Call(Request),
     Read(Vec<u8>),
@@ -19,6 +18,14 @@ pub enum Command {
     Help,
     /// Unknown or malformed: its first word.
     Bad(String),
+}
+
+/// A slice to be lent from now on.
+#[derive(Debug, Clone, PartialEq, Eq)]
+pub enum Slice {
+    Nums(Vec<i64>),
+    Names(Vec<u8>),
+    Last(Vec<i64>),
 }
 
 /// Reads one command, its end of line cut off.
@@ -35,11 +42,9 @@ pub fn parse(line: &[u8]) -> Command {
 fn parse_tokens(tokens: &[&str]) -> Option<Command> {
     let (&word, rest) = tokens.split_first()?;
     match (word, rest) {
-        ("SLICE", ["nums", values @ ..]) => {
-            let numbers = values.iter().map(|token| book_number(token));
-            Some(Command::Nums(numbers.collect::<Option<_>>()?))
-        }
-        ("BYTES", ["names", token]) => hex::read(token).map(Command::Names),
+        ("SLICE", ["nums", values @ ..]) => book_numbers(values).map(lend(Slice::Nums)),
+        ("SLICE", ["last", values @ ..]) => book_numbers(values).map(lend(Slice::Last)),
+        ("BYTES", ["names", token]) => hex::read(token).map(lend(Slice::Names)),
         ("BYTES", ["names", ..]) => None,
         ("SLICE" | "BYTES", [_, ..]) | ("LEVEL" | "QUEUE", _) => Some(Command::Nothing),
         ("HELP", []) => Some(Command::Help),
@@ -51,6 +56,11 @@ fn parse_tokens(tokens: &[&str]) -> Option<Command> {
         }
         _ => parse_request(tokens).map(Command::Call),
     }
+}
+
+/// The command that lends a slice of this name.
+fn lend<T>(slice: fn(Vec<T>) -> Slice) -> impl Fn(Vec<T>) -> Command {
+    move |values| Command::Lend(slice(values))
 }
 
 /// A request in the tokens of its call.
@@ -152,6 +162,10 @@ fn parse_who(token: &str) -> Option<Who> {
 /// A request number: digits alone, 64-bit.
 fn number(token: &str) -> Option<u64> {
     all_digits(token).then(|| token.parse().ok())?
+}
+
+fn book_numbers(tokens: &[&str]) -> Option<Vec<i64>> {
+    tokens.iter().map(|token| book_number(token)).collect()
 }
 
 /// A book number: digits, a minus before them where negative, 64-bit.

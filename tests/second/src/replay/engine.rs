@@ -11,6 +11,8 @@ use crate::request::{Delivery, NewOrder, OrderStatus, Payment, Request, StockLev
 pub struct Lent {
     pub nums: Vec<i64>,
     pub names: Vec<u8>,
+    /// The last order of each customer.
+    pub last: Vec<i64>,
 }
 
 impl Lent {
@@ -22,18 +24,25 @@ impl Lent {
 
     /// A line for each slice: numbers with commas between, bytes in lower-case hex.
     fn hashed_text(&self) -> Vec<u8> {
-        let mut text = Vec::with_capacity(3 * self.nums.len() + 2 * self.names.len() + 16);
+        let numbers = self.nums.len() + self.last.len();
+        let mut text = Vec::with_capacity(3 * numbers + 2 * self.names.len() + 24);
         text.extend_from_slice(b"nums=");
-        for (place, &number) in self.nums.iter().enumerate() {
-            if place > 0 {
-                text.push(b',');
-            }
-            put_number(&mut text, number);
-        }
+        put_numbers(&mut text, &self.nums);
         text.extend_from_slice(b"\nnames=");
         hex::put(&mut text, &self.names);
+        text.extend_from_slice(b"\nlast=");
+        put_numbers(&mut text, &self.last);
         text.push(b'\n');
         text
+    }
+}
+
+fn put_numbers(text: &mut Vec<u8>, numbers: &[i64]) {
+    for (place, &number) in numbers.iter().enumerate() {
+        if place > 0 {
+            text.push(b',');
+        }
+        put_number(text, number);
     }
 }
 
@@ -66,7 +75,7 @@ impl Engine for SecondEngine {
     }
 
     fn new_order(&mut self, lent: &mut Lent, request: &NewOrder) -> Outcome<NewOrderFigures> {
-        crate::new_order(&mut lent.nums, &lent.names, request)
+        crate::new_order(&mut lent.nums, &lent.names, &mut lent.last, request)
     }
 
     fn payment(&mut self, lent: &mut Lent, request: &Payment) -> Outcome<PaymentFigures> {
@@ -78,7 +87,7 @@ impl Engine for SecondEngine {
     }
 
     fn order_status<'a>(&mut self, lent: &'a Lent, request: &OrderStatus) -> OrderStatusAnswer<'a> {
-        crate::order_status(&lent.nums, &lent.names, request)
+        crate::order_status(&lent.nums, &lent.names, &lent.last, request)
     }
 
     fn stock_level(&mut self, lent: &Lent, request: &StockLevel) -> Outcome<StockLevelFigures> {

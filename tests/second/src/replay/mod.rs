@@ -11,7 +11,8 @@ pub mod sha256;
 
 pub use engine::{Engine, Lent, SecondEngine};
 
-use command::Command;
+use crate::layout::Layout;
+use command::{Command, Slice};
 use std::io::{self, BufRead, Write};
 
 /// Where the commands and answers are described.
@@ -43,10 +44,39 @@ pub fn run(
     }
 }
 
+/// The slices as commands set them and calls leave them.
+#[derive(Default)]
+pub struct Slices {
+    pub lent: Lent,
+    /// Has a command set the last orders? They are then never made anew.
+    last_set: bool,
+}
+
+impl Slices {
+    pub fn set(&mut self, slice: Slice) {
+        match slice {
+            Slice::Nums(nums) => self.set_nums(nums),
+            Slice::Names(names) => self.lent.names = names,
+            Slice::Last(last) => {
+                self.lent.last = last;
+                self.last_set = true;
+            }
+        }
+    }
+
+    /// With a head in range, last orders that no command has set become all 0.
+    fn set_nums(&mut self, nums: Vec<i64>) {
+        if let (false, Some(layout)) = (self.last_set, Layout::from_head(&nums)) {
+            self.lent.last = vec![0; layout.last_orders()];
+        }
+        self.lent.nums = nums;
+    }
+}
+
 /// An engine and the slices that stand lent to it.
 pub struct Replay<'e, E: Engine> {
     engine: &'e mut E,
-    pub lent: Lent,
+    pub slices: Slices,
     /// The last fingerprint, and what it was taken of: most answers change nothing.
     taken: Option<(Lent, String)>,
 }
@@ -55,27 +85,24 @@ impl<'e, E: Engine> Replay<'e, E> {
     pub fn new(engine: &'e mut E) -> Replay<'e, E> {
         Replay {
             engine,
-            lent: Lent::default(),
+            slices: Slices::default(),
             taken: None,
         }
     }
 
     /// Carries out one command, its end of line cut off; the answer if it has one.
     pub fn step(&mut self, line: &[u8]) -> Option<String> {
+        let lent = &mut self.slices.lent;
         let answer = match command::parse(line) {
             Command::Nothing => return None,
-            Command::Nums(nums) => {
-                self.lent.nums = nums;
-                return None;
-            }
-            Command::Names(names) => {
-                self.lent.names = names;
+            Command::Lend(slice) => {
+                self.slices.set(slice);
                 return None;
             }
             Command::Help => return Some(HELP.to_string()),
             Command::Bad(word) => return Some(format!("BAD {word}")),
-            Command::Open => print::open(self.engine.open(&self.lent)),
-            Command::Call(request) => print::call(self.engine, &mut self.lent, &request),
+            Command::Open => print::open(self.engine.open(lent)),
+            Command::Call(request) => print::call(self.engine, lent, &request),
             Command::Read(line) => print::read(self.engine.read(&line)),
             Command::Write(cap, request) => {
                 let mut buffer = vec![UNWRITTEN; cap];
@@ -88,11 +115,12 @@ impl<'e, E: Engine> Replay<'e, E> {
 
     /// The fingerprint of the slices as they now stand.
     fn fingerprint(&mut self) -> String {
+        let now = &self.slices.lent;
         match &self.taken {
-            Some((lent, fingerprint)) if *lent == self.lent => fingerprint.clone(),
+            Some((lent, fingerprint)) if lent == now => fingerprint.clone(),
             _ => {
-                let fingerprint = self.lent.fingerprint();
-                self.taken = Some((self.lent.clone(), fingerprint.clone()));
+                let fingerprint = now.fingerprint();
+                self.taken = Some((now.clone(), fingerprint.clone()));
                 fingerprint
             }
         }

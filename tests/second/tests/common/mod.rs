@@ -7,6 +7,7 @@ use second::*;
 
 pub const NUMBERS: usize = 5_211;
 pub const NAME_BYTES: usize = 1_280;
+pub const LAST_ORDERS: usize = 40;
 
 /// Rows, counted from 1 as the book counts them.
 pub fn warehouse(w: usize) -> usize {
@@ -34,7 +35,12 @@ pub fn name(w: usize, d: usize, c: usize) -> usize {
     32 * (2 * (10 * (w - 1) + d - 1) + c - 1)
 }
 
-/// A book that opening accepts. Customer 1 is ALM, EVA and customer 2 is ALM, BO.
+/// The place of a customer's number in the last orders.
+pub fn last(w: usize, d: usize, c: usize) -> usize {
+    2 * (10 * (w - 1) + d - 1) + c - 1
+}
+
+/// A book that opening accepts, its last orders all 0. Customer 1 is ALM, EVA and customer 2 is ALM, BO.
 pub fn fresh() -> Lent {
     let mut nums = vec![0; NUMBERS];
     nums[..6].copy_from_slice(&[2, 2, 3, 3, 2, 0]);
@@ -55,11 +61,12 @@ pub fn fresh() -> Lent {
     for first in ["EVA", "BO"].iter().cycle().take(40) {
         names.extend_from_slice(format!("{:16}{:16}", "ALM", first).as_bytes());
     }
-    Lent { nums, names }
+    let last = vec![0; LAST_ORDERS];
+    Lent { nums, names, last }
 }
 
 /// A book with two orders of two lines in each district, both waiting, the second's
-/// customer 2, and one history row.
+/// customer 2, one history row, and the last orders that fit.
 pub fn in_use() -> Lent {
     let mut lent = fresh();
     lent.nums[5] = 1;
@@ -71,6 +78,7 @@ pub fn in_use() -> Lent {
                 let start = order(w, d, o);
                 let row = [o as i64, 50, 0, 2, 1, 1, 1, 1, 3, 300, 0, 2, 1, 1, 250, 0];
                 lent.nums[start..start + 16].copy_from_slice(&row);
+                lent.last[last(w, d, o)] = o as i64;
             }
         }
     }
