@@ -9,12 +9,26 @@ pub trait Sink {
 }
 
 /// A digest of all answers of a batch; equal ones show that the contenders answered alike.
-#[derive(Default)]
-pub struct Digest(pub u64);
+/// Each number counts times an odd number of its place: one changed number changes the sum, and no product waits for the one before.
+pub struct Digest {
+    sum: u64,
+    place: u64,
+}
+
+impl Digest {
+    const STEP: u64 = 0x9e37_79b9_7f4a_7c16;
+
+    fn new() -> Self {
+        Digest { sum: 0, place: 1 }
+    }
+}
 
 impl Sink for Digest {
     fn put(&mut self, number: i64) {
-        self.0 = (self.0.rotate_left(5) ^ number as u64).wrapping_mul(0x9e37_79b9_7f4a_7c15);
+        self.sum = self
+            .sum
+            .wrapping_add((number as u64).wrapping_mul(self.place));
+        self.place = self.place.wrapping_add(Self::STEP);
     }
 }
 
@@ -29,11 +43,11 @@ pub trait Contender {
 
     /// All requests in turn; the digest of the answers.
     fn batch(&mut self, requests: &[Request]) -> u64 {
-        let mut digest = Digest::default();
+        let mut digest = Digest::new();
         for request in requests {
             self.carry(request, &mut digest);
         }
-        digest.0
+        digest.sum
     }
 
     fn answer(&mut self, request: &Request) -> Vec<i64> {

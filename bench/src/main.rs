@@ -4,6 +4,7 @@
 //! the chart; profile carries out one call on the proved library alone, for a profiler to look at.
 
 mod book;
+mod by_hand;
 mod chart;
 mod check;
 mod contender;

@@ -1,6 +1,7 @@
 //! Times every call on one book: all contenders in turn, round by round.
 
 use crate::book::{self, Size};
+use crate::by_hand;
 use crate::check::Engines;
 use crate::contender::{Contender, InBook};
 use crate::requests::{Asker, Call, Timed, CALLS};
@@ -28,13 +29,15 @@ pub struct Row {
     pub to_sum: Option<f64>,
 }
 
-/// The pass over a district's last orders by itself, on the requests of New-Order: microseconds of the plain sum and of the two
-/// engines' passes, and the quotients, by the medians as above.
+/// The pass over a district's last orders by itself, on the requests of New-Order: microseconds of the plain sum, of the pass written by
+/// hand and of the two engines' passes, and the quotients, by the medians as above.
 pub struct Pass {
     pub sum: f64,
+    pub by_hand: f64,
     pub proved: f64,
     pub second: f64,
     pub to_sum: f64,
+    pub to_by_hand: f64,
     pub to_second: f64,
 }
 
@@ -134,17 +137,22 @@ pub fn book(size: &Size, fewer: usize) -> Measured {
     Measured { rows, pass }
 }
 
-/// The three in turn, another one first each time.
+/// The four in turn, another one first each time.
 fn pass(field: &mut Field, asker: &mut Asker, rounds: usize) -> Pass {
-    let mut spent: [Vec<f64>; 3] = Default::default();
+    let mut spent: [Vec<f64>; 4] = Default::default();
     for round in 0..rounds {
         let requests = refused_by_12(asker.batch(Call::NewOrder, 100), field.layout.items);
-        for turn in 0..3 {
-            let which = (round + turn) % 3;
+        for turn in 0..4 {
+            let which = (round + turn) % 4;
             let Engines { proved, second, .. } = &mut field.engines;
+            let (lent, layout) = (&field.summed.lent, &field.layout);
             let micros = match which {
-                0 => summed(&field.summed.lent, &field.layout, &requests),
+                0 => looked_at(&requests, |r| sums::used_rows(black_box(lent), layout, r)),
                 1 => own_pass(proved, &requests),
+                2 => looked_at(&requests, |r| {
+                    assert!(by_hand::passes(black_box(lent), layout, r));
+                    0
+                }),
                 _ => own_pass(second, &requests),
             };
             spent[which].push(micros);
@@ -153,10 +161,12 @@ fn pass(field: &mut Field, asker: &mut Asker, rounds: usize) -> Pass {
     let quotient = |by: usize| median(spent[1].iter().zip(&spent[by]).map(|(p, s)| p / s));
     Pass {
         sum: median(spent[0].iter().copied()),
+        by_hand: median(spent[2].iter().copied()),
         proved: median(spent[1].iter().copied()),
-        second: median(spent[2].iter().copied()),
+        second: median(spent[3].iter().copied()),
         to_sum: quotient(0),
-        to_second: quotient(2),
+        to_by_hand: quotient(2),
+        to_second: quotient(3),
     }
 }
 
@@ -172,13 +182,9 @@ fn refused_by_12(requests: Vec<Request>, items: usize) -> Vec<Request> {
     refused
 }
 
-/// Microseconds of the plain sum over the last orders of each request's district, after a turn that is not timed.
-fn summed(lent: &Lent, layout: &Layout, requests: &[Request]) -> f64 {
-    let batch = || {
-        requests.iter().fold(0, |all, request| {
-            all ^ sums::used_rows(black_box(lent), layout, request)
-        })
-    };
+/// Microseconds of a look at the last orders of each request's district, after a turn that is not timed.
+fn looked_at(requests: &[Request], look: impl Fn(&Request) -> i64) -> f64 {
+    let batch = || requests.iter().fold(0, |all, request| all ^ look(request));
     black_box(batch());
     micros(requests.len(), batch)
 }

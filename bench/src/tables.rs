@@ -42,13 +42,14 @@ pub fn compared(title: &str, rows: &[Row]) {
 pub fn passes(books: &[(&str, Measured)]) {
     println!("\n### The pass over a district's last orders\n");
     println!("C numbers; a New-Order refused by 12, behind the pass, less the same refused by 13 for the slice's length, before it.\n");
-    println!("| Book | Proved, µs | Second engine, µs | Plain sum, µs | Proved ÷ second | Proved ÷ sum |");
-    println!("|---|--:|--:|--:|--:|--:|");
+    println!("| Book | Proved, µs | Second engine, µs | By hand, µs | Plain sum, µs | Proved ÷ second | Proved ÷ by hand | Proved ÷ sum |");
+    println!("|---|--:|--:|--:|--:|--:|--:|--:|");
     for (title, book) in books {
         let pass = &book.pass;
-        let [proved, second, sum] = [pass.proved, pass.second, pass.sum].map(time);
-        let (to_second, to_sum) = (pass.to_second, pass.to_sum);
-        println!("| {title} | {proved} | {second} | {sum} | {to_second:.2} | {to_sum:.2} |");
+        let times = [pass.proved, pass.second, pass.by_hand, pass.sum];
+        let [proved, second, by_hand, sum] = times.map(time);
+        let (to_second, to_by_hand, to_sum) = (pass.to_second, pass.to_by_hand, pass.to_sum);
+        println!("| {title} | {proved} | {second} | {by_hand} | {sum} | {to_second:.2} | {to_by_hand:.2} | {to_sum:.2} |");
     }
 }
 

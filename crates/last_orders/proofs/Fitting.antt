@@ -1,17 +1,15 @@
 -- A district's numbers by their addresses: they follow each other, and what refusal 13's first two tests say of them.
 -- Assumes nothing.
-use mathlib.Core.Path.{_≡_, refl, sym, ap, _∙_}
-use mathlib.Core.Bool.{Bool, true, false, _&&_, cond}
-use mathlib.Core.Logic.{_≢_}
+use mathlib.Core.Path.{_≡_, ap, _∙_}
+use mathlib.Core.Bool.{Bool, true}
 use mathlib.Core.List.{List}
-use Prim.Native.Nat.{ℕ, _+_, _-_, _*_, _≤_, _<_, _^_}
+use Prim.Native.Nat.{ℕ, _+_, _-_, _*_, _≤_}
 use native.Mathlib.Omega.{arith}
-use lib.Dec.{leb}
+use lib.Dec.{leb, eqb}
 use lib.IntN.{ℤ, pos}
 use lib.ListN.{length, getD, set}
-use borrow.Author.Tests.{eq-eqb, ne-eqb}
+use borrow.Author.Tests.{eqb-true}
 use Rattle.model.specs.declared.Dims.{Dims}
-use Rattle.model.specs.declared.Refusal.{Refusal}
 use Rattle.model.specs.Tests.{allTo}
 use Rattle.model.specs.Numbers.{nat, cell}
 use Rattle.model.specs.Layout.{shapes, place, inside, perCustomer, ofCustomer}
@@ -47,29 +45,21 @@ module _ (d : Dims) (w k : ℕ) where
           let q : p + (c - 1) ≡ place (perCustomer d) (ofCustomer w k c) = ap (λ (i : ℕ). i + (c - 1)) e ∙ last-next c (r .lo) in
           rw (q, f)
 
--- ── the two tests, by the length ──
-module _ (d : Dims) (b last : List ℤ) (w k : ℕ) {n : ℕ} (e : n ≡ allCustomers d) where
-  pub not-long : length last ≢ n → false ≡ (lastLong d last && lastOk d b last w k)
+-- ── the slice's length ──
+module _ (d : Dims) (last : List ℤ) where
+  pub long-is : {n : ℕ} → n ≡ allCustomers d → eqb (length last) n ≡ lastLong d last
   unfolding lastLong allCustomers
-  not-long h = rw (ne-eqb (length last) (10 * d .warehouses * d .customers) (λ q. h (q ∙ sym e)))
+  long-is e = ap (eqb (length last)) e
 
-  pub long-then : {t : Bool} → length last ≡ n → t ≡ lastOk d b last w k → t ≡ (lastLong d last && lastOk d b last w k)
-  unfolding lastLong allCustomers
-  long-then h f = rw (eq-eqb (length last) (10 * d .warehouses * d .customers) (h ∙ e)) f
-
--- .. as two entries of a list of tests, refused by the same x; f is the first refusal of the tests behind
-pub two-as-one : (s t : Bool) (f x : Refusal) → cond (s && t) f x ≡ cond s (cond t f x) x
-two-as-one true t f x = refl
-two-as-one false t f x = refl
+  pub long-length : lastLong d last ≡ true → length last ≡ 10 * d .warehouses * d .customers
+  unfolding lastLong
+  long-length e = eqb-true _ _ e
 
 -- ── a number at its address, read and stored ──
 module _ (d : Dims) (last : List ℤ) (w k c : ℕ) {p : ℕ} (e : p ≡ place (perCustomer d) (ofCustomer w k c)) where
   last-cell : cell last p ≡ nat (lastAt d last w k c)
   unfolding cell get
   last-cell = ap (λ (i : ℕ). nat (getD last i (pos 0))) e
-
-  pub read-low : nat (lastAt d last w k c) < 2 ^ 63 → cell last p < 2 ^ 63
-  read-low h = rw last-cell h
 
   pub read-at : {v : ℕ} → v ≡ cell last p → v ≡ nat (lastAt d last w k c)
   read-at f = f ∙ last-cell

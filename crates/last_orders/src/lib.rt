@@ -39,29 +39,44 @@ fn all_before(last: &[i64], p: u64, n: u64, next: u64) -> bool
     (low < 9223372036854775808) & (high < 9223372036854775808)
 }
 
-// The first two tests of refusal 13: the slice is as long as it has to be, and the numbers of the call's district are below its next
-// order number. The district's row has been found in range.
-pub fn fits(last: &[i64], b: &[i64], d: Dims, w: u64, k: u64) -> bool
-    requires { ⌜ Booked d (now b) × (R (d .warehouses) w × (R 10 k × (districtUsed d (now b) w k ≡ true))) ⌝ }
-    ensures { λ r. ⌜ r ≡ (lastLong d (now (last .entry)) && lastOk d (now (b .entry)) (now (last .entry)) w k) ⌝ }
+// The first test of refusal 13: the slice is as long as it has to be.
+pub fn long_ok(last: &[i64], d: Dims) -> bool
+    requires { ⌜ Dimensioned d ⌝ }
+    ensures { λ r. ⌜ r ≡ lastLong d (now (last .entry)) ⌝ }
 {
     let long = last.len() as u64;
     let customers = layout::all_customers(d);
-    if long != customers {
-        return false;
-    }
+    long == customers
+}
+
+// The second: the numbers of the call's district are below its next order number. The district's row has been found in range.
+pub fn numbers_ok(last: &[i64], b: &[i64], d: Dims, w: u64, k: u64) -> bool
+    requires { ⌜ Booked d (now b) × (R (d .warehouses) w × (R 10 k × ((districtUsed d (now b) w k ≡ true) × (lastLong d (now last) ≡ true)))) ⌝ }
+    ensures { λ r. ⌜ r ≡ lastOk d (now (b .entry)) (now (last .entry)) w k ⌝ }
+{
     let p = layout::last_at(d, w, k, 1);
     let next = rows::next_order(b, d, w, k);
     all_before(last, p, d.customers, next)
 }
 
-// A customer's last order, 0 for none; the number is known not to be negative.
+// Both tests, as New-Order makes them.
+pub fn fits(last: &[i64], b: &[i64], d: Dims, w: u64, k: u64) -> bool
+    requires { ⌜ Booked d (now b) × (R (d .warehouses) w × (R 10 k × (districtUsed d (now b) w k ≡ true))) ⌝ }
+    ensures { λ r. ⌜ r ≡ (lastLong d (now (last .entry)) && lastOk d (now (b .entry)) (now (last .entry)) w k) ⌝ }
+{
+    if !long_ok(last, d) {
+        return false;
+    }
+    numbers_ok(last, b, d, w, k)
+}
+
+// A customer's last order, 0 for none; a negative number is above every order.
 pub fn last_of(last: &[i64], d: Dims, w: u64, k: u64, c: u64) -> u64
-    requires { ⌜ Dimensioned d × (R (d .warehouses) w × (R 10 k × (R (d .customers) c × ((length (now last) ≡ 10 * d .warehouses * d .customers) × (nat (lastAt d (now last) w k c) < 2 ^ 63))))) ⌝ }
+    requires { ⌜ Dimensioned d × (R (d .warehouses) w × (R 10 k × (R (d .customers) c × (lastLong d (now last) ≡ true)))) ⌝ }
     ensures { λ r. ⌜ r ≡ nat (lastAt d (now (last .entry)) w k c) ⌝ }
 {
     let p = layout::last_at(d, w, k, c);
-    cells::held(last, p)
+    cells::get(last, p)
 }
 
 // An order becomes its customer's last.

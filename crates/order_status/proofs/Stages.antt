@@ -1,15 +1,15 @@
 -- The stages of a status's tests, and what is shown.
 -- Assumes nothing.
 use mathlib.Core.Path.{_≡_, refl, sym, ap, _∙_}
-use mathlib.Core.Bool.{Bool, true, false, not, _&&_}
+use mathlib.Core.Bool.{Bool, true, false, _&&_, cond}
 use mathlib.Core.Logic.{_≢_}
 use mathlib.Core.List.{List, [], _∷_}
-use Prim.Native.Nat.{ℕ, zero, suc, _+_, _*_, _^_, _≤_, _<_}
+use Prim.Native.Nat.{ℕ, zero, suc, _+_, _*_, _≤_, _<_}
 use native.Mathlib.Omega.{arith}
 use lib.Dec.{eqb}
 use lib.IntN.{ℤ, pos}
 use lib.ListN.{length}
-use borrow.Author.Tests.{eq-eqb, not-false}
+use borrow.Author.Tests.{eq-eqb}
 use Rattle.model.specs.declared.Dims.{Dims}
 use Rattle.model.specs.declared.OrderStatus.{OrderStatus}
 use Rattle.model.specs.declared.Refusal.{Refusal}
@@ -27,10 +27,10 @@ use Rattle.model.specs.LastOrder.{lastAt, lastLong, lastOk, foundOk}
 use Rattle.model.specs.Answer.{committed, refused, statusSays}
 use Rattle.model.specs.OrderStatus.{statusAsked, statusUsed, statusFault, statusCustomer, statusOrder, orderShown, emptyPart, linesPart, statusAnswer, statusPart}
 use Rattle.model.specs.Claim.{R}
-use Rattle.model.proofs.TestLaws.{and-left, and-right}
-use Rattle.model.proofs.Fields.{Dimensioned, place-col}
+use Rattle.model.proofs.TestLaws.{and-same}
+use Rattle.model.proofs.Fields.{place-col}
 use Rattle.model.proofs.RowFacts.{OrderIn, district-in}
-use Rattle.model.proofs.LastFacts.{LastFits, last-fits}
+use Rattle.model.proofs.LastFacts.{last-fits}
 use Rattle.model.proofs.NameLaws.{customer-in}
 use Rattle.model.proofs.StatusFacts.{StatusReady, status-ready}
 use Rattle.model.proofs.AnswerLaws.{refused-is, kept-is}
@@ -39,7 +39,7 @@ use Rattle.layout.proofs.Heads.{behind-head}
 use Rattle.rows.proofs.RowTests.{order-test}
 use Rattle.order_status.specs.declared.Shown.{Shown}
 use Rattle.order_status.specs.declared.Seen.{Seen}
-use Rattle.order_status.specs.Seen.{seenBy, seenIn, ShownCall}
+use Rattle.order_status.specs.Seen.{seenBy, lastTests, seenIn, ShownCall}
 
 -- ── what is seen, by the first refusal ──
 pub seen-none : (c o : ℕ) (r : Refusal) {f : Refusal} {s : Seen} → eqb (r .number) 0 ≡ false → r ≡ f → s ≡ record { refusal = r; customer = 0; order = 0 } → s ≡ seenBy f c o
@@ -47,6 +47,33 @@ seen-none c o r z e g = g ∙ rw (← e, z)
 
 pub seen-all : {r f : Refusal} {c o x y : ℕ} → r ≡ bare 0 → r ≡ f → x ≡ c → y ≡ o → record { refusal = r; customer = x; order = y } ≡ seenBy f c o
 seen-all z e p q = rw (← e, z, p, q)
+
+-- ── 13's three tests, made in another order ──
+pub last-false : (s : Bool) {t : Bool} → false ≡ t → false ≡ (s && t)
+last-false true e = e
+last-false false e = refl
+
+pub last-true : (s : Bool) {a t : Bool} → s ≡ a → true ≡ t → s ≡ (a && t)
+last-true true e f = and-same e f
+last-true false e f = and-same {t = true} e f
+
+module _ (d : Dims) (b last : List ℤ) (w k : ℕ) where
+  -- a number above every slot's is not below next
+  pub too-high : (c : ℕ) → districtUsed d b w k ≡ true → lastLong d last ≡ true → R (d .customers) c → d .orders < nat (lastAt d last w k c) → false ≡ lastOk d b last w k
+  too-high c e l r h = go (lastOk d b last w k) refl
+    where
+      go : (t : Bool) → lastOk d b last w k ≡ t → false ≡ t
+      go false f = refl
+      go true f = absurd (omega (arith, last-fits d b last w k l f .each c r, district-in d b w k e .next-high))
+
+  -- the three as entries of a list of tests, each refused by x; f is the first refusal of the tests behind
+  pub as-one : (o : ℕ) (f x : Refusal) → cond (lastTests d b last w k o) f x ≡ cond (lastLong d last) (cond (lastOk d b last w k) (cond (foundOk d b w k o) f x) x) x
+  as-one o f x = go (lastLong d last) (lastOk d b last w k)
+    where
+      go : (s t : Bool) → cond (s && (t && foundOk d b w k o)) f x ≡ cond s (cond t (cond (foundOk d b w k o) f x) x) x
+      go true true = refl
+      go true false = refl
+      go false t = refl
 
 -- ── the customer that is found, and its number in the slice ──
 module _ (d : Dims) (names : List ℕ) (last : List ℤ) (q : OrderStatus) (who : Who) {f : Found} {c : ℕ} (e : f ≡ customerOf d names (q .warehouse) (q .district) who)
@@ -62,19 +89,9 @@ module _ (d : Dims) (names : List ℕ) (last : List ℤ) (q : OrderStatus) (who 
   unfolding statusOrder
   number-is h = h ∙ ap (λ (x : ℕ). nat (lastAt d last (q .warehouse) (q .district) x)) who-is
 
--- ── where 13's first two tests pass, a number is that of a slot or 0 ──
-module _ (d : Dims) (b last : List ℤ) (w k : ℕ) {s t : Bool} (e : s ≡ districtUsed d b w k) (y : not s ≡ false)
-    (f : t ≡ (lastLong d last && lastOk d b last w k)) (z : not t ≡ false) where
-  pub fitting : LastFits d b last w k
-  fitting =
-      let h = sym f ∙ not-false t z in
-      last-fits d b last w k (and-left (lastLong d last) (lastOk d b last w k) h) (and-right (lastLong d last) (lastOk d b last w k) h)
-
-  pub number-high : (c : ℕ) → R (d .customers) c → nat (lastAt d last w k c) ≤ d .orders
-  number-high c r = omega (arith, fitting .each c r, district-in d b w k (sym e ∙ not-false s y) .next-high)
-
-  pub number-low : (c : ℕ) → Dimensioned d → R (d .customers) c → nat (lastAt d last w k c) < 2 ^ 63
-  number-low c m r = omega (arith, number-high c r, m .orders-high)
+  pub tests-are : (b : List ℤ) {t : Bool} → t ≡ lastTests d b last (q .warehouse) (q .district) (nat (lastAt d last (q .warehouse) (q .district) c))
+      → t ≡ lastTests d b last (q .warehouse) (q .district) (statusOrder d names last q who)
+  tests-are b h = h ∙ ap (lastTests d b last (q .warehouse) (q .district)) (number-is refl)
 
 -- ── the order that is found ──
 module _ (d : Dims) (b : List ℤ) (w k : ℕ) where

@@ -1,6 +1,7 @@
 -- What the code finds out before it answers. No rule of the book is here.
 -- Assumes nothing.
 use mathlib.Core.Path.{_≡_}
+use mathlib.Core.Bool.{Bool, _&&_}
 use mathlib.Core.List.{List, _++_}
 use Prim.Native.Nat.{ℕ, _+_, _≤_}
 use lib.IntN.{ℤ}
@@ -10,6 +11,7 @@ use Rattle.model.specs.declared.Dims.{Dims}
 use Rattle.model.specs.declared.OrderStatus.{OrderStatus}
 use Rattle.model.specs.Tests.{bare, fault}
 use Rattle.model.specs.Names.{Who}
+use Rattle.model.specs.LastOrder.{lastLong, lastOk, foundOk}
 use Rattle.model.specs.Answer.{leftBy, statusSays}
 use Rattle.model.specs.OrderStatus.{statusAsked, statusUsed, statusCustomer, statusOrder, statusAnswer, statusPart}
 use Rattle.order_status.specs.declared.Seen.{Seen}
@@ -21,6 +23,10 @@ seenBy f c o = record { refusal = f; customer = leftBy f c 0; order = leftBy f o
 
 abbrev pub nothing : ℕ → Seen
 nothing n = record { refusal = bare n; customer = 0; order = 0 }
+
+-- 13's three tests, of the order with number o
+abbrev pub lastTests : Dims → List ℤ → List ℤ → ℕ → ℕ → ℕ → Bool
+lastTests d b last w k o = lastLong d last && (lastOk d b last w k && foundOk d b w k o)
 
 -- what the rows, names and last orders decide, and what the request decides before
 abbrev pub seenUsed : Dims → List ℤ → List ℕ → List ℤ → OrderStatus → Who → Seen

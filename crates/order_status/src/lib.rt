@@ -10,8 +10,9 @@ ghost use Rattle.model.specs.Layout.{shapes, nameBytes};
 ghost use Rattle.model.specs.Store.{get, num};
 ghost use Rattle.model.specs.Rows.{balance, lineCount};
 ghost use Rattle.model.specs.Names.{whoOf, whoTests, customerOf};
-ghost use Rattle.model.specs.Used.{whoUsed};
-ghost use Rattle.model.specs.LastOrder.{foundOk};
+ghost use Rattle.model.specs.Numbers.{nat};
+ghost use Rattle.model.specs.Used.{districtUsed, whoUsed};
+ghost use Rattle.model.specs.LastOrder.{lastAt, foundOk};
 ghost use Rattle.model.specs.Answer.{refused, statusSays};
 ghost use Rattle.model.specs.OrderStatus.{statusAsked, orderShown, emptyPart, partOf, linesPart};
 ghost use Rattle.model.specs.Claim.{R};
@@ -19,7 +20,7 @@ ghost use Rattle.model.proofs.Fields.{Dimensioned, Shaped};
 ghost use Rattle.model.proofs.StatusFacts.{StatusAsked};
 ghost use Rattle.model.specs.Contracts.{StatusCall};
 ghost use Rattle.rows.specs.Book.{Booked};
-ghost use Rattle.order_status.specs.Seen.{seenUsed, seenIn, nothing, ShownCall};
+ghost use Rattle.order_status.specs.Seen.{lastTests, seenUsed, seenIn, nothing, ShownCall};
 use layout::Head;
 use model::Dims;
 use model::Found;
@@ -112,6 +113,25 @@ fn found_ok(b: &[i64], d: Dims, w: u64, k: u64, o: u64) -> bool
     rows::order_ok(b, d, row)
 }
 
+// 13: the slice, the numbers of the district in it, and the order that is found. The customer's own number and its order go before the pass over
+// the district, which takes longer: they are on their way from memory meanwhile.
+fn last_ok(b: &[i64], last: &[i64], d: Dims, w: u64, k: u64, c: u64) -> bool
+    requires { ⌜ Booked d (now b) × (R (d .warehouses) w × (R 10 k × (R (d .customers) c × (districtUsed d (now b) w k ≡ true)))) ⌝ }
+    ensures { λ r. ⌜ r ≡ lastTests d (now (b .entry)) (now (last .entry)) w k (nat (lastAt d (now (last .entry)) w k c)) ⌝ }
+{
+    if !last_orders::long_ok(last, d) {
+        return false;
+    }
+    let order = last_orders::last_of(last, d, w, k, c);
+    if order > d.orders {
+        return false;
+    }
+    if !found_ok(b, d, w, k, order) {
+        return false;
+    }
+    last_orders::numbers_ok(last, b, d, w, k)
+}
+
 // The first refusal that the rows, names and last orders decide, the customer and its last order.
 fn used(
     b: &[i64],
@@ -135,13 +155,10 @@ fn used(
     let Found::Customer(c) = found else {
         return nothing_seen(10);
     };
-    if !last_orders::fits(last, b, d, q.warehouse, q.district) {
+    if !last_ok(b, last, d, q.warehouse, q.district, c) {
         return nothing_seen(13);
     }
     let order = last_orders::last_of(last, d, q.warehouse, q.district, c);
-    if !found_ok(b, d, q.warehouse, q.district, order) {
-        return nothing_seen(13);
-    }
     let refusal = cells::refused(0);
     Seen {
         refusal,

@@ -1,46 +1,26 @@
-use Rattle.last_orders.proofs.Fitting.{not-long, long-then, pass-is, last-end}
-use Rattle.model.proofs.RowFacts.{district-in}
-use native.Mathlib.Omega.{arith}
-use Rattle.layout.specs.Layout.{allCustomers}
+use Rattle.model.proofs.TestLaws.{and-same}
+use borrow.Author.Tests.{not-true, not-false}
+use mathlib.Core.Bool.{true, false}
+use mathlib.Core.Path.{refl, sym, _∙_}
 use borrow.Author.Needs.{needs}
 use Rattle.last_orders.proofs.fits.Statement.{statement}
 use Rattle.last_orders.proofs.fits.Tie as tie
 use Rattle.last_orders.proofs.fits.Reads as reads
 use Rattle.last_orders.proofs.fits.Lts as lts
-use Rattle.last_orders.proofs.all_before.Reads as all-before-reads
-use Rattle.layout.proofs.all_customers.Reads as all-customers-reads
-use Rattle.layout.proofs.last_at.Reads as last-at-reads
-use Rattle.rows.proofs.next_order.Reads as next-order-reads
+use Rattle.last_orders.proofs.long_ok.Reads as long-ok-reads
+use Rattle.last_orders.proofs.numbers_ok.Reads as numbers-ok-reads
 
-all-customers-requires : tie.Need-all-customers-requires
-all-customers-requires c κs = search needs
+long-ok-requires : tie.Need-long-ok-requires
+long-ok-requires c κs = search needs
 
 returns : tie.Need-returns
-returns c =
-    not-long (c .before .before .args .d) (c .before .before .args .b .now) (c .before .before .args .last .now) (c .before .before .args .w) (c .before .before .args .k) (c .before .all-customers .ensures .0) (λ q. omega (arith, c .if1 .taken))
+returns c = and-same {s = false} (sym (not-true (c .before .long-ok .result) (c .if1 .taken)) ∙ c .before .long-ok .ensures) refl
 
-last-at-requires : tie.Need-last-at-requires
-last-at-requires c κs = search needs
-
-next-order-requires : tie.Need-next-order-requires
-next-order-requires c κs = search needs
-
-all-before-requires : tie.Need-all-before-requires
-unfolding allCustomers
-all-before-requires c κs =
-    (omega (arith, last-end (c .before .before .before .before .args .d) (c .before .before .before .before .args .w) (c .before .before .before .before .args .k) (c .before .before .before .before .pre .1 .0) (c .before .before .before .before .pre .1 .1 .0) (c .before .before .before .before .pre .0 .dimsd .customers-low) (c .before .last-at .ensures .0), c .before .before .before .all-customers .ensures, c .before .before .if1 .left), omega (arith, district-in (c .before .before .before .before .args .d) (c .before .before .before .before .args .b .now) (c .before .before .before .before .args .w) (c .before .before .before .before .args .k) (c .before .before .before .before .pre .1 .1 .1), c .next-order .ensures, c .before .before .before .before .pre .0 .dimsd))
+numbers-ok-requires : tie.Need-numbers-ok-requires
+numbers-ok-requires c κs = (c .before .before .pre .0, (c .before .before .pre .1 .0, (c .before .before .pre .1 .1 .0, (c .before .before .pre .1 .1 .1, sym (c .before .long-ok .ensures) ∙ not-false (c .before .long-ok .result) (c .if1 .left)))))
 
 returns-2 : tie.Need-returns-2
-returns-2 c =
-    long-then (c .before .before .before .before .before .args .d) (c .before .before .before .before .before .args .b .now) (c .before .before .before .before .before .args .last .now) (c .before .before .before .before .before .args .w) (c .before .before .before .before .before .args .k) (c .before .before .before .before .all-customers .ensures .0) (c .before .before .before .if1 .left) (pass-is (c .before .before .before .before .before .args .d) (c .before .before .before .before .before .args .w) (c .before .before .before .before .before .args .k) (c .before .before .before .before .before .args .b .now) (c .before .before .before .before .before .args .last .now) (c .before .before .last-at .result) (c .before .next-order .result) (c .before .before .last-at .ensures .0) (c .before .next-order .ensures) (c .all-before .ensures))
+returns-2 c = and-same {s = true} (sym (not-false (c .before .before .long-ok .result) (c .before .if1 .left)) ∙ c .before .before .long-ok .ensures) (c .numbers-ok .ensures)
 
 pub fits-spec : {M : Type 1} → statement M
-fits-spec =
-    tie.close
-    (tie.spec
-    all-customers-requires
-    returns
-    last-at-requires
-    next-order-requires
-    all-before-requires
-    returns-2)
+fits-spec = tie.close (tie.spec long-ok-requires returns numbers-ok-requires returns-2)

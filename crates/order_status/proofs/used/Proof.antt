@@ -1,13 +1,11 @@
-use Rattle.order_status.proofs.Stages.{seen-none, seen-all, who-is, who-in, number-is, fitting, number-high, number-low}
-use Rattle.last_orders.proofs.Fitting.{two-as-one}
-use Rattle.model.proofs.TestLaws.{turned-away, passed-on}
+use Rattle.order_status.proofs.Stages.{seen-none, seen-all, who-is, who-in, number-is, tests-are, as-one}
+use Rattle.model.proofs.TestLaws.{and-left, turned-away, passed-on}
 use Rattle.model.specs.Tests.{bare}
 use Rattle.model.specs.Names.{whoOf, isFound}
-use Rattle.model.specs.LastOrder.{lastLong, lastOk, foundOk}
-use Rattle.model.specs.OrderStatus.{statusUsed}
+use Rattle.model.specs.LastOrder.{lastLong}
+use Rattle.model.specs.OrderStatus.{statusUsed, statusOrder}
 use Rattle.rows.proofs.RowTests.{shaped-booked}
 use mathlib.Core.Path.{refl, sym, ap, _∙_}
-use native.Mathlib.Omega.{arith}
 use borrow.Author.Tests.{not-false}
 use borrow.Author.Needs.{needs}
 use Rattle.order_status.proofs.used.Statement.{statement}
@@ -15,10 +13,9 @@ use Rattle.order_status.proofs.used.Tie as tie
 use Rattle.order_status.proofs.used.Reads as reads
 use Rattle.order_status.proofs.used.Lts as lts
 use Rattle.cells.proofs.refused.Reads as refused-reads
-use Rattle.last_orders.proofs.fits.Reads as fits-reads
 use Rattle.last_orders.proofs.last_of.Reads as last-of-reads
 use Rattle.order_status.proofs.customer_of.Reads as customer-of-reads
-use Rattle.order_status.proofs.found_ok.Reads as found-ok-reads
+use Rattle.order_status.proofs.last_ok.Reads as last-ok-reads
 use Rattle.order_status.proofs.nothing_seen.Reads as nothing-seen-reads
 use Rattle.order_status.proofs.who_used.Reads as who-used-reads
 use Rattle.rows.proofs.district_used.Reads as district-used-reads
@@ -62,9 +59,9 @@ unfolding statusUsed
 returns-3 c =
     seen-none _ _ (bare 10) refl (passed-on 9 _ (c .before .before .before .before .before .before .before .district-used .ensures) (c .before .before .before .before .before .before .if1 .left) (passed-on 9 _ (c .before .before .before .before .before .who-used .ensures) (c .before .before .before .before .if2 .left) (turned-away 10 _ (ap isFound (c .before .before .before .customer-of .ensures)) (rw (c .before .enum-told .given .1)) refl))) (c .nothing-seen3 .ensures)
 
-fits-requires : tie.Need-fits-requires
-fits-requires c κs =
-    (shaped-booked (c .before .before .before .before .before .before .before .before .before .before .pre .0), (c .before .before .before .before .before .before .before .before .before .before .pre .1 .w, (c .before .before .before .before .before .before .before .before .before .before .pre .1 .k, sym (c .before .before .before .before .before .before .before .district-used .ensures) ∙ not-false (c .before .before .before .before .before .before .before .district-used .result) (c .before .before .before .before .before .before .if1 .left))))
+last-ok-requires : tie.Need-last-ok-requires
+last-ok-requires c κs =
+    (shaped-booked (c .before .before .before .before .before .before .before .before .before .before .pre .0), (c .before .before .before .before .before .before .before .before .before .before .pre .1 .w, (c .before .before .before .before .before .before .before .before .before .before .pre .1 .k, (who-in (c .before .before .before .before .before .before .before .before .before .before .args .d) (c .before .before .before .before .before .before .before .before .before .before .args .names .now) (c .before .before .before .before .before .before .before .before .before .before .args .last .now) (c .before .before .before .before .before .before .before .before .before .before .args .q) (whoOf (c .before .before .before .before .before .before .before .before .before .before .args .who) (c .before .before .before .before .before .before .before .before .before .before .args .name .now)) (c .before .before .before .customer-of .ensures) (c .before .found .given .1) (c .before .before .before .before .before .before .before .before .before .before .pre .1 .who-ok), sym (c .before .before .before .before .before .before .before .district-used .ensures) ∙ not-false (c .before .before .before .before .before .before .before .district-used .result) (c .before .before .before .before .before .before .if1 .left)))))
 
 nothing-seen-requires-4 : tie.Need-nothing-seen-requires-4
 nothing-seen-requires-4 c κs = search needs
@@ -72,32 +69,19 @@ nothing-seen-requires-4 c κs = search needs
 returns-4 : tie.Need-returns-4
 unfolding statusUsed
 returns-4 c =
-    seen-none _ _ (bare 13) refl (passed-on 9 _ (c .before .before .before .before .before .before .before .before .before .before .district-used .ensures) (c .before .before .before .before .before .before .before .before .before .if1 .left) (passed-on 9 _ (c .before .before .before .before .before .before .before .before .who-used .ensures) (c .before .before .before .before .before .before .before .if2 .left) (passed-on 10 _ (ap isFound (c .before .before .before .before .before .before .customer-of .ensures)) (rw (c .before .before .before .before .found .given .1)) (turned-away 13 _ (c .before .before .fits2 .ensures) (c .before .if3 .taken) refl ∙ two-as-one (lastLong (c .before .before .before .before .before .before .before .before .before .before .before .before .before .args .d) (c .before .before .before .before .before .before .before .before .before .before .before .before .before .args .last .now)) (lastOk (c .before .before .before .before .before .before .before .before .before .before .before .before .before .args .d) (c .before .before .before .before .before .before .before .before .before .before .before .before .before .args .b .now) (c .before .before .before .before .before .before .before .before .before .before .before .before .before .args .last .now) (c .before .before .before .before .before .before .before .before .before .before .before .before .before .args .q .warehouse) (c .before .before .before .before .before .before .before .before .before .before .before .before .before .args .q .district)) _ (bare 13))))) (c .nothing-seen4 .ensures)
+    seen-none _ _ (bare 13) refl (passed-on 9 _ (c .before .before .before .before .before .before .before .before .before .before .district-used .ensures) (c .before .before .before .before .before .before .before .before .before .if1 .left) (passed-on 9 _ (c .before .before .before .before .before .before .before .before .who-used .ensures) (c .before .before .before .before .before .before .before .if2 .left) (passed-on 10 _ (ap isFound (c .before .before .before .before .before .before .customer-of .ensures)) (rw (c .before .before .before .before .found .given .1)) (turned-away 13 _ (tests-are (c .before .before .before .before .before .before .before .before .before .before .before .before .before .args .d) (c .before .before .before .before .before .before .before .before .before .before .before .before .before .args .names .now) (c .before .before .before .before .before .before .before .before .before .before .before .before .before .args .last .now) (c .before .before .before .before .before .before .before .before .before .before .before .before .before .args .q) (whoOf (c .before .before .before .before .before .before .before .before .before .before .before .before .before .args .who) (c .before .before .before .before .before .before .before .before .before .before .before .before .before .args .name .now)) (c .before .before .before .before .before .before .customer-of .ensures) (c .before .before .before .before .found .given .1) (c .before .before .before .before .before .before .before .before .before .before .before .before .before .args .b .now) (c .before .before .last-ok .ensures)) (c .before .if3 .taken) refl ∙ as-one (c .before .before .before .before .before .before .before .before .before .before .before .before .before .args .d) (c .before .before .before .before .before .before .before .before .before .before .before .before .before .args .b .now) (c .before .before .before .before .before .before .before .before .before .before .before .before .before .args .last .now) (c .before .before .before .before .before .before .before .before .before .before .before .before .before .args .q .warehouse) (c .before .before .before .before .before .before .before .before .before .before .before .before .before .args .q .district) (statusOrder (c .before .before .before .before .before .before .before .before .before .before .before .before .before .args .d) (c .before .before .before .before .before .before .before .before .before .before .before .before .before .args .names .now) (c .before .before .before .before .before .before .before .before .before .before .before .before .before .args .last .now) (c .before .before .before .before .before .before .before .before .before .before .before .before .before .args .q) (whoOf (c .before .before .before .before .before .before .before .before .before .before .before .before .before .args .who) (c .before .before .before .before .before .before .before .before .before .before .before .before .before .args .name .now))) (bare 0) (bare 13))))) (c .nothing-seen4 .ensures)
 
 last-of-requires : tie.Need-last-of-requires
 last-of-requires c κs =
-    let r = who-in (c .before .before .before .before .before .before .before .before .before .before .before .before .args .d) (c .before .before .before .before .before .before .before .before .before .before .before .before .args .names .now) (c .before .before .before .before .before .before .before .before .before .before .before .before .args .last .now) (c .before .before .before .before .before .before .before .before .before .before .before .before .args .q) (whoOf (c .before .before .before .before .before .before .before .before .before .before .before .before .args .who) (c .before .before .before .before .before .before .before .before .before .before .before .before .args .name .now)) (c .before .before .before .before .before .customer-of .ensures) (c .before .before .before .found .given .1) (c .before .before .before .before .before .before .before .before .before .before .before .before .pre .1 .who-ok) in
-    (c .before .before .before .before .before .before .before .before .before .before .before .before .pre .0 .dimsd, (c .before .before .before .before .before .before .before .before .before .before .before .before .pre .1 .w, (c .before .before .before .before .before .before .before .before .before .before .before .before .pre .1 .k, (omega (arith, r), (fitting (c .before .before .before .before .before .before .before .before .before .before .before .before .args .d) (c .before .before .before .before .before .before .before .before .before .before .before .before .args .b .now) (c .before .before .before .before .before .before .before .before .before .before .before .before .args .last .now) (c .before .before .before .before .before .before .before .before .before .before .before .before .args .q .warehouse) (c .before .before .before .before .before .before .before .before .before .before .before .before .args .q .district) (c .before .before .before .before .before .before .before .before .before .district-used .ensures) (c .before .before .before .before .before .before .before .before .if1 .left) (c .before .fits2 .ensures) (c .if3 .left) .long, number-low (c .before .before .before .before .before .before .before .before .before .before .before .before .args .d) (c .before .before .before .before .before .before .before .before .before .before .before .before .args .b .now) (c .before .before .before .before .before .before .before .before .before .before .before .before .args .last .now) (c .before .before .before .before .before .before .before .before .before .before .before .before .args .q .warehouse) (c .before .before .before .before .before .before .before .before .before .before .before .before .args .q .district) (c .before .before .before .before .before .before .before .before .before .district-used .ensures) (c .before .before .before .before .before .before .before .before .if1 .left) (c .before .fits2 .ensures) (c .if3 .left) _ (c .before .before .before .before .before .before .before .before .before .before .before .before .pre .0 .dimsd) (omega (arith, r)))))))
-
-found-ok-requires : tie.Need-found-ok-requires
-found-ok-requires c κs =
-    (shaped-booked (c .before .before .before .before .before .before .before .before .before .before .before .before .before .pre .0), (c .before .before .before .before .before .before .before .before .before .before .before .before .before .pre .1 .w, (c .before .before .before .before .before .before .before .before .before .before .before .before .before .pre .1 .k, rw (c .last-of .ensures) (number-high (c .before .before .before .before .before .before .before .before .before .before .before .before .before .args .d) (c .before .before .before .before .before .before .before .before .before .before .before .before .before .args .b .now) (c .before .before .before .before .before .before .before .before .before .before .before .before .before .args .last .now) (c .before .before .before .before .before .before .before .before .before .before .before .before .before .args .q .warehouse) (c .before .before .before .before .before .before .before .before .before .before .before .before .before .args .q .district) (c .before .before .before .before .before .before .before .before .before .before .district-used .ensures) (c .before .before .before .before .before .before .before .before .before .if1 .left) (c .before .before .fits2 .ensures) (c .before .if3 .left) _ (omega (arith, who-in (c .before .before .before .before .before .before .before .before .before .before .before .before .before .args .d) (c .before .before .before .before .before .before .before .before .before .before .before .before .before .args .names .now) (c .before .before .before .before .before .before .before .before .before .before .before .before .before .args .last .now) (c .before .before .before .before .before .before .before .before .before .before .before .before .before .args .q) (whoOf (c .before .before .before .before .before .before .before .before .before .before .before .before .before .args .who) (c .before .before .before .before .before .before .before .before .before .before .before .before .before .args .name .now)) (c .before .before .before .before .before .before .customer-of .ensures) (c .before .before .before .before .found .given .1) (c .before .before .before .before .before .before .before .before .before .before .before .before .before .pre .1 .who-ok)))))))
-
-nothing-seen-requires-5 : tie.Need-nothing-seen-requires-5
-nothing-seen-requires-5 c κs = search needs
-
-returns-5 : tie.Need-returns-5
-unfolding statusUsed
-returns-5 c =
-    seen-none _ _ (bare 13) refl (passed-on 9 _ (c .before .before .before .before .before .before .before .before .before .before .before .before .before .district-used .ensures) (c .before .before .before .before .before .before .before .before .before .before .before .before .if1 .left) (passed-on 9 _ (c .before .before .before .before .before .before .before .before .before .before .before .who-used .ensures) (c .before .before .before .before .before .before .before .before .before .before .if2 .left) (passed-on 10 _ (ap isFound (c .before .before .before .before .before .before .before .before .before .customer-of .ensures)) (rw (c .before .before .before .before .before .before .before .found .given .1)) (passed-on 13 _ (c .before .before .before .before .before .fits2 .ensures) (c .before .before .before .before .if3 .left) (turned-away 13 _ (c .before .before .found-ok .ensures ∙ ap (foundOk (c .before .before .before .before .before .before .before .before .before .before .before .before .before .before .before .before .args .d) (c .before .before .before .before .before .before .before .before .before .before .before .before .before .before .before .before .args .b .now) (c .before .before .before .before .before .before .before .before .before .before .before .before .before .before .before .before .args .q .warehouse) (c .before .before .before .before .before .before .before .before .before .before .before .before .before .before .before .before .args .q .district)) (number-is (c .before .before .before .before .before .before .before .before .before .before .before .before .before .before .before .before .args .d) (c .before .before .before .before .before .before .before .before .before .before .before .before .before .before .before .before .args .names .now) (c .before .before .before .before .before .before .before .before .before .before .before .before .before .before .before .before .args .last .now) (c .before .before .before .before .before .before .before .before .before .before .before .before .before .before .before .before .args .q) (whoOf (c .before .before .before .before .before .before .before .before .before .before .before .before .before .before .before .before .args .who) (c .before .before .before .before .before .before .before .before .before .before .before .before .before .before .before .before .args .name .now)) (c .before .before .before .before .before .before .before .before .before .customer-of .ensures) (c .before .before .before .before .before .before .before .found .given .1) (c .before .before .before .last-of .ensures))) (c .before .if4 .taken) refl) ∙ two-as-one (lastLong (c .before .before .before .before .before .before .before .before .before .before .before .before .before .before .before .before .args .d) (c .before .before .before .before .before .before .before .before .before .before .before .before .before .before .before .before .args .last .now)) (lastOk (c .before .before .before .before .before .before .before .before .before .before .before .before .before .before .before .before .args .d) (c .before .before .before .before .before .before .before .before .before .before .before .before .before .before .before .before .args .b .now) (c .before .before .before .before .before .before .before .before .before .before .before .before .before .before .before .before .args .last .now) (c .before .before .before .before .before .before .before .before .before .before .before .before .before .before .before .before .args .q .warehouse) (c .before .before .before .before .before .before .before .before .before .before .before .before .before .before .before .before .args .q .district)) _ (bare 13))))) (c .nothing-seen5 .ensures)
+    (c .before .before .before .before .before .before .before .before .before .before .before .before .pre .0 .dimsd, (c .before .before .before .before .before .before .before .before .before .before .before .before .pre .1 .w, (c .before .before .before .before .before .before .before .before .before .before .before .before .pre .1 .k, (who-in (c .before .before .before .before .before .before .before .before .before .before .before .before .args .d) (c .before .before .before .before .before .before .before .before .before .before .before .before .args .names .now) (c .before .before .before .before .before .before .before .before .before .before .before .before .args .last .now) (c .before .before .before .before .before .before .before .before .before .before .before .before .args .q) (whoOf (c .before .before .before .before .before .before .before .before .before .before .before .before .args .who) (c .before .before .before .before .before .before .before .before .before .before .before .before .args .name .now)) (c .before .before .before .before .before .customer-of .ensures) (c .before .before .before .found .given .1) (c .before .before .before .before .before .before .before .before .before .before .before .before .pre .1 .who-ok), and-left (lastLong (c .before .before .before .before .before .before .before .before .before .before .before .before .args .d) (c .before .before .before .before .before .before .before .before .before .before .before .before .args .last .now)) _ (sym (c .before .last-ok .ensures) ∙ not-false (c .before .last-ok .result) (c .if3 .left))))))
 
 refused-requires : tie.Need-refused-requires
 refused-requires c κs = search needs
 
-returns-6 : tie.Need-returns-6
+returns-5 : tie.Need-returns-5
 unfolding statusUsed
-returns-6 c =
-    seen-all (c .refused .ensures) (passed-on 9 _ (c .before .before .before .before .before .before .before .before .before .before .before .before .before .district-used .ensures) (c .before .before .before .before .before .before .before .before .before .before .before .before .if1 .left) (passed-on 9 _ (c .before .before .before .before .before .before .before .before .before .before .before .who-used .ensures) (c .before .before .before .before .before .before .before .before .before .before .if2 .left) (passed-on 10 _ (ap isFound (c .before .before .before .before .before .before .before .before .before .customer-of .ensures)) (rw (c .before .before .before .before .before .before .before .found .given .1)) (passed-on 13 _ (c .before .before .before .before .before .fits2 .ensures) (c .before .before .before .before .if3 .left) (passed-on 13 _ (c .before .before .found-ok .ensures ∙ ap (foundOk (c .before .before .before .before .before .before .before .before .before .before .before .before .before .before .before .before .args .d) (c .before .before .before .before .before .before .before .before .before .before .before .before .before .before .before .before .args .b .now) (c .before .before .before .before .before .before .before .before .before .before .before .before .before .before .before .before .args .q .warehouse) (c .before .before .before .before .before .before .before .before .before .before .before .before .before .before .before .before .args .q .district)) (number-is (c .before .before .before .before .before .before .before .before .before .before .before .before .before .before .before .before .args .d) (c .before .before .before .before .before .before .before .before .before .before .before .before .before .before .before .before .args .names .now) (c .before .before .before .before .before .before .before .before .before .before .before .before .before .before .before .before .args .last .now) (c .before .before .before .before .before .before .before .before .before .before .before .before .before .before .before .before .args .q) (whoOf (c .before .before .before .before .before .before .before .before .before .before .before .before .before .before .before .before .args .who) (c .before .before .before .before .before .before .before .before .before .before .before .before .before .before .before .before .args .name .now)) (c .before .before .before .before .before .before .before .before .before .customer-of .ensures) (c .before .before .before .before .before .before .before .found .given .1) (c .before .before .before .last-of .ensures))) (c .before .if4 .left) (c .refused .ensures)) ∙ two-as-one (lastLong (c .before .before .before .before .before .before .before .before .before .before .before .before .before .before .before .before .args .d) (c .before .before .before .before .before .before .before .before .before .before .before .before .before .before .before .before .args .last .now)) (lastOk (c .before .before .before .before .before .before .before .before .before .before .before .before .before .before .before .before .args .d) (c .before .before .before .before .before .before .before .before .before .before .before .before .before .before .before .before .args .b .now) (c .before .before .before .before .before .before .before .before .before .before .before .before .before .before .before .before .args .last .now) (c .before .before .before .before .before .before .before .before .before .before .before .before .before .before .before .before .args .q .warehouse) (c .before .before .before .before .before .before .before .before .before .before .before .before .before .before .before .before .args .q .district)) _ (bare 13))))) (who-is (c .before .before .before .before .before .before .before .before .before .before .before .before .before .before .before .before .args .d) (c .before .before .before .before .before .before .before .before .before .before .before .before .before .before .before .before .args .names .now) (c .before .before .before .before .before .before .before .before .before .before .before .before .before .before .before .before .args .last .now) (c .before .before .before .before .before .before .before .before .before .before .before .before .before .before .before .before .args .q) (whoOf (c .before .before .before .before .before .before .before .before .before .before .before .before .before .before .before .before .args .who) (c .before .before .before .before .before .before .before .before .before .before .before .before .before .before .before .before .args .name .now)) (c .before .before .before .before .before .before .before .before .before .customer-of .ensures) (c .before .before .before .before .before .before .before .found .given .1)) (number-is (c .before .before .before .before .before .before .before .before .before .before .before .before .before .before .before .before .args .d) (c .before .before .before .before .before .before .before .before .before .before .before .before .before .before .before .before .args .names .now) (c .before .before .before .before .before .before .before .before .before .before .before .before .before .before .before .before .args .last .now) (c .before .before .before .before .before .before .before .before .before .before .before .before .before .before .before .before .args .q) (whoOf (c .before .before .before .before .before .before .before .before .before .before .before .before .before .before .before .before .args .who) (c .before .before .before .before .before .before .before .before .before .before .before .before .before .before .before .before .args .name .now)) (c .before .before .before .before .before .before .before .before .before .customer-of .ensures) (c .before .before .before .before .before .before .before .found .given .1) (c .before .before .before .last-of .ensures))
+returns-5 c =
+    seen-all (c .refused .ensures) (passed-on 9 _ (c .before .before .before .before .before .before .before .before .before .before .before .district-used .ensures) (c .before .before .before .before .before .before .before .before .before .before .if1 .left) (passed-on 9 _ (c .before .before .before .before .before .before .before .before .before .who-used .ensures) (c .before .before .before .before .before .before .before .before .if2 .left) (passed-on 10 _ (ap isFound (c .before .before .before .before .before .before .before .customer-of .ensures)) (rw (c .before .before .before .before .before .found .given .1)) (passed-on 13 _ (tests-are (c .before .before .before .before .before .before .before .before .before .before .before .before .before .before .args .d) (c .before .before .before .before .before .before .before .before .before .before .before .before .before .before .args .names .now) (c .before .before .before .before .before .before .before .before .before .before .before .before .before .before .args .last .now) (c .before .before .before .before .before .before .before .before .before .before .before .before .before .before .args .q) (whoOf (c .before .before .before .before .before .before .before .before .before .before .before .before .before .before .args .who) (c .before .before .before .before .before .before .before .before .before .before .before .before .before .before .args .name .now)) (c .before .before .before .before .before .before .before .customer-of .ensures) (c .before .before .before .before .before .found .given .1) (c .before .before .before .before .before .before .before .before .before .before .before .before .before .before .args .b .now) (c .before .before .before .last-ok .ensures)) (c .before .before .if3 .left) (c .refused .ensures) ∙ as-one (c .before .before .before .before .before .before .before .before .before .before .before .before .before .before .args .d) (c .before .before .before .before .before .before .before .before .before .before .before .before .before .before .args .b .now) (c .before .before .before .before .before .before .before .before .before .before .before .before .before .before .args .last .now) (c .before .before .before .before .before .before .before .before .before .before .before .before .before .before .args .q .warehouse) (c .before .before .before .before .before .before .before .before .before .before .before .before .before .before .args .q .district) (statusOrder (c .before .before .before .before .before .before .before .before .before .before .before .before .before .before .args .d) (c .before .before .before .before .before .before .before .before .before .before .before .before .before .before .args .names .now) (c .before .before .before .before .before .before .before .before .before .before .before .before .before .before .args .last .now) (c .before .before .before .before .before .before .before .before .before .before .before .before .before .before .args .q) (whoOf (c .before .before .before .before .before .before .before .before .before .before .before .before .before .before .args .who) (c .before .before .before .before .before .before .before .before .before .before .before .before .before .before .args .name .now))) (bare 0) (bare 13))))) (who-is (c .before .before .before .before .before .before .before .before .before .before .before .before .before .before .args .d) (c .before .before .before .before .before .before .before .before .before .before .before .before .before .before .args .names .now) (c .before .before .before .before .before .before .before .before .before .before .before .before .before .before .args .last .now) (c .before .before .before .before .before .before .before .before .before .before .before .before .before .before .args .q) (whoOf (c .before .before .before .before .before .before .before .before .before .before .before .before .before .before .args .who) (c .before .before .before .before .before .before .before .before .before .before .before .before .before .before .args .name .now)) (c .before .before .before .before .before .before .before .customer-of .ensures) (c .before .before .before .before .before .found .given .1)) (number-is (c .before .before .before .before .before .before .before .before .before .before .before .before .before .before .args .d) (c .before .before .before .before .before .before .before .before .before .before .before .before .before .before .args .names .now) (c .before .before .before .before .before .before .before .before .before .before .before .before .before .before .args .last .now) (c .before .before .before .before .before .before .before .before .before .before .before .before .before .before .args .q) (whoOf (c .before .before .before .before .before .before .before .before .before .before .before .before .before .before .args .who) (c .before .before .before .before .before .before .before .before .before .before .before .before .before .before .args .name .now)) (c .before .before .before .before .before .before .before .customer-of .ensures) (c .before .before .before .before .before .found .given .1) (c .before .last-of .ensures))
 
 pub used-spec : {M : Type 1} → statement M
 used-spec =
@@ -114,12 +98,9 @@ used-spec =
     enum-told
     nothing-seen-requires-3
     returns-3
-    fits-requires
+    last-ok-requires
     nothing-seen-requires-4
     returns-4
     last-of-requires
-    found-ok-requires
-    nothing-seen-requires-5
-    returns-5
     refused-requires
-    returns-6)
+    returns-5)
