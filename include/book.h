@@ -130,7 +130,7 @@ struct book_open_answer {
     uint64_t detail;
 };
 
-/* The order's number in its district, and the total that is billed, in cents. No total is kept in the book. */
+/* The order's number in its district, and the total that is billed, to the nearest cent, an exact half upwards. No total is kept in the book. */
 struct book_order_answer {
     uint64_t refusal;
     uint64_t detail;

@@ -227,8 +227,8 @@ static void story(void)
     struct book_level_request low;
     memset(&deliver, 0, sizeof deliver), memset(&pay, 0, sizeof pay), memset(&ask, 0, sizeof ask), memset(&low, 0, sizeof low);
 
-    /* 1,000 + 1,200 cents, 1 in 100 off, 15 in 100 taxes: 2,504.7 */
-    see(ordered.refusal == BOOK_COMMITTED && ordered.detail == 0 && ordered.order == 1 && ordered.total == 2504, "an order");
+    /* 1,000 + 1,200 cents, 1 in 100 off, 15 in 100 taxes: 2,504.7, to the nearest cent */
+    see(ordered.refusal == BOOK_COMMITTED && ordered.detail == 0 && ordered.order == 1 && ordered.total == 2505, "an order");
     see(at(row, BOOK_ORDER_CUSTOMER) == 3 && at(row, BOOK_ORDER_ENTRY_DATE) == 100 && at(row, BOOK_ORDER_CARRIER) == 0 &&
             at(row, BOOK_ORDER_LINE_COUNT) == 2 && at(row, BOOK_ORDER_ALL_LOCAL) == 0 && at(row, BOOK_ORDER_WAITING) == 1,
         "the order's row");

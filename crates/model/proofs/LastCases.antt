@@ -69,7 +69,7 @@ history =
     ∷ prints "N 1 1 1 101 1 1 1 4 1 1" "N 12 2"
     ∷ prints "S 1 1 #1" "S 0 1 0 1 100 0 1 1 10 1000 0 2 1 3 750 0"
     ∷ prints "S 1 1 #2" "S 0 2 0 2 101 0 1 1 1 100 0"
-    ∷ prints "N 1 1 1 50 3 1 2" "N 0 3 2067"
+    ∷ prints "N 1 1 1 50 3 1 2" "N 0 3 2068"
     ∷ prints "S 1 1 #1" "S 0 1 0 3 50 0 3 1 2 1998 0"
     ∷ prints "D 1 3 200" "D 0 9 1 0 0 0 0 0 0 0 0 0"
     ∷ prints "S 1 1 =ALM" "S 0 2 0 2 101 0 1 1 1 100 0"
@@ -113,11 +113,11 @@ pub record LastCases : Type 0 where
       prints "S 1 1 #1" "S 13 0"
       ∷ prints "N 1 1 1 100 1 1 1" "N 13 0"
       ∷ prints "S 1 2 #1" "S 0 1 0 0 0 0"
-      ∷ prints "N 1 2 1 100 1 1 1" "N 0 1 103"
+      ∷ prints "N 1 2 1 100 1 1 1" "N 0 1 104"
       ∷ [])
   pub other-district : Prints (program (set programLast 3 (pos 7))) (
       prints "S 1 1 #1" "S 0 1 0 0 0 0"
-      ∷ prints "N 1 1 1 100 1 1 1" "N 0 1 103"
+      ∷ prints "N 1 1 1 100 1 1 1" "N 0 1 104"
       ∷ prints "S 1 1 #1" "S 0 1 0 1 100 0 1 1 1 100 0"
       ∷ prints "S 1 2 #1" "S 13 0"
       ∷ [])
@@ -127,7 +127,7 @@ pub record LastCases : Type 0 where
   pub as-it-stands : Prints (lent ordered programNames (second (pos 1))) (
       prints "S 1 1 #1" "S 0 1 0 0 0 0"
       ∷ prints "S 1 1 #2" "S 0 2 0 1 100 0 1 1 10 1000 0"
-      ∷ prints "N 1 1 2 5 2 1 1" "N 0 2 287"
+      ∷ prints "N 1 1 2 5 2 1 1" "N 0 2 288"
       ∷ prints "S 1 1 #2" "S 0 2 0 2 5 0 2 1 1 250 0"
       ∷ prints "S 1 1 #1" "S 0 1 0 0 0 0"
       ∷ [])
@@ -135,7 +135,7 @@ pub record LastCases : Type 0 where
   pub order-out-of-range : Prints (lent (set ordered 185 (pos 11)) programNames (first (pos 1))) (
       prints "S 1 1 #1" "S 13 0"
       ∷ prints "S 1 1 #2" "S 0 2 0 0 0 0"
-      ∷ prints "N 1 1 1 5 2 1 1" "N 0 2 258"
+      ∷ prints "N 1 1 1 5 2 1 1" "N 0 2 259"
       ∷ prints "S 1 1 #1" "S 0 1 0 2 5 0 2 1 1 250 0"
       ∷ [])
   -- .. and of a line: amount 0

@@ -27,6 +27,7 @@ pub mod DeliveryFacts
 pub mod StatusFacts
 pub mod StockLevelFacts
 pub mod Cases
+pub mod Rounding
 pub mod Parts
 pub mod OrderRows
 pub mod StepPay

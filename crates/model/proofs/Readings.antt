@@ -185,9 +185,9 @@ Range tests low top =
     ≡ true ∷ true ∷ replicate (length low + length top) false
 
 pub record Figures : Type 0 where
-  -- "the fraction of a cent dropped": 17.595 and 10.5
-  pub fraction : orderTotal 17 1000 1000 500 ∷ orderTotal 10 0 250 250 ∷ [] ≡ 17 ∷ 10 ∷ []
-  -- ".. / 100,000,000": dropped once, at the end
+  -- R-2: "to the nearest cent, an exact half upwards": 17.595 and 10.5
+  pub fraction : orderTotal 17 1000 1000 500 ∷ orderTotal 10 0 250 250 ∷ [] ≡ 18 ∷ 11 ∷ []
+  -- ".. / 100,000,000": rounded once, at the end
   pub once : orderTotal 99 5000 5000 5000 ≡ 99
   -- "Among n equal last names, sorted by first name bytes and then number, place n/2 rounded up is taken.": of 3, 1, 2 the second.
   -- "a last name, compared after padding to 16 bytes" "Nobody in the district has the last name"

@@ -13,6 +13,7 @@ pub mod LastOrder
 pub mod Answer
 pub mod Opening
 pub mod NewOrder
+pub mod Rounding
 pub mod Payment
 pub mod Delivery
 pub mod OrderStatus

@@ -1,4 +1,4 @@
-//! Document 01's twelve cases, its listing, and what reviewers try.
+//! Document 01's twelve cases and R-2's, its listing, and what reviewers try.
 
 mod common;
 
@@ -28,13 +28,14 @@ L 0 1
 ";
 
 #[test]
-fn twelve_cases() {
+fn thirteen_cases() {
     assert_eq!(left_on_hand(20, 10), 10);
     assert_eq!(left_on_hand(10, 1), 100);
     assert_eq!(left_on_hand(0, 10), 81);
     assert_eq!(left_on_hand(9_999, 10), 9_989);
     assert_eq!(total(1_750, 1_000, 1_000, 500), 1_811);
     assert_eq!(total(100, 0, 1_000, 500), 115);
+    assert_eq!(total(10, 0, 250, 250), 11);
     assert_eq!([1, 2, 3].map(place), [1, 1, 2]);
     // The window is from its start to next - 1: empty, 1 to 20, 2 to 21.
     assert_eq!([1, 21, 22].map(window_start), [1, 1, 2]);
@@ -150,7 +151,7 @@ fn item_named_twice_is_taken_twice_in_turn() {
     let outcome = new_order(nums, names, last, &new_order_of(&lines));
     let figures = NewOrderFigures {
         order: 1,
-        total: 1_138, // 1,100 x 0.9 x 1.15 = 1,138.5
+        total: 1_139, // 1,100 x 0.9 x 1.15 = 1,138.5
     };
     assert_eq!(outcome, Outcome::Committed(figures));
     assert_eq!(lent.nums[stock(1, 1)..stock(1, 2)], [100, 11, 2, 0]);

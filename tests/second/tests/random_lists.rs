@@ -95,9 +95,9 @@ fn every_answer_is_reached() {
     assert!(counts.keys().all(known), "an answer that no call gives");
 }
 
-/// Every way to meet 13, each with what stands beside it in checking order, and what calls have to pass by.
+/// Every way to meet 13, each with what stands beside it in checking order, and what calls have to pass by; totals at half a cent and beside it.
 #[test]
-fn every_kind_of_last_orders_is_reached() {
+fn every_kind_is_reached() {
     let counts = stats::count(11, 2_000);
     let slice_faults = [
         "no slice",
@@ -129,6 +129,9 @@ fn every_kind_of_last_orders_is_reached() {
         ("N", 13, "before 11"),
         ("N", 13, "before 12"),
         ("N", 0, "wrong elsewhere"),
+        ("N", 0, "exactly half a cent"),
+        ("N", 0, "one part below half a cent"),
+        ("N", 0, "one part above half a cent"),
         ("S", 9, "and 13"),
         ("S", 10, "and 13"),
         ("S", 13, "the order found"),

@@ -7,8 +7,10 @@ pub mod random;
 pub mod requests;
 pub mod stats;
 pub mod texts;
+pub mod totals;
 
 use crate::replay::{hex, print, Lent};
+use crate::request::Request;
 use random::Random;
 use requests::Asker;
 
@@ -38,7 +40,7 @@ pub fn list(seed: u64, number: u64) -> String {
 }
 
 fn any_list(random: &mut Random) -> String {
-    match random.weighted(&[22, 6, 18, 7, 6, 7, 7, 3, 3, 14, 7, 4]) {
+    match random.weighted(&[22, 6, 18, 7, 6, 7, 7, 3, 3, 14, 7, 4, 12]) {
         0 => opened(random),
         1 => filled(random),
         2 => never_opened(random),
@@ -50,7 +52,8 @@ fn any_list(random: &mut Random) -> String {
         8 => chaotic(random),
         9 => last_orders(random),
         10 => neighbours(random),
-        _ => long_history(random),
+        11 => long_history(random),
+        _ => half_cents(random),
     }
 }
 
@@ -230,6 +233,29 @@ fn long_history(random: &mut Random) -> String {
     text
 }
 
+/// Orders whose exact totals are half a cent over, or one part of a cent less or more, among other calls.
+fn half_cents(random: &mut Random) -> String {
+    let mut layout = books::dimensions(random);
+    layout.order_slots = layout.order_slots.max(8);
+    let new = random.percent(60);
+    let mut book = match new {
+        true => books::fresh(random, layout),
+        false => books::in_use(random, layout),
+    };
+    let orders = totals::halves(random, &mut book);
+    let mut text = lend(&book.lent);
+    if new {
+        text.push_str("OPEN\n");
+    }
+    let asker = &mut Asker::new(&book, 30);
+    for order in orders.into_iter().cycle().take(6) {
+        push(&mut text, &Request::NewOrder(order));
+        let count = random.below(2);
+        ask(random, &mut text, asker, &MIXED, count);
+    }
+    text
+}
+
 /// Request lines to read and requests to write; the book is not used.
 fn request_lines(random: &mut Random) -> String {
     let mut text = lend(&Lent::default());
@@ -264,9 +290,13 @@ fn ask(
 ) {
     for _ in 0..count {
         let request = asker.request(random, weights);
-        text.push_str(&print::request_tokens(&request));
-        text.push('\n');
+        push(text, &request);
     }
+}
+
+fn push(text: &mut String, request: &Request) {
+    text.push_str(&print::request_tokens(request));
+    text.push('\n');
 }
 
 /// The commands that set the lent slices.

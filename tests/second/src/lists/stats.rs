@@ -1,10 +1,12 @@
 //! How often the random lists reach each answer of each call.
 
+use super::totals::HALF;
 use crate::checks;
 use crate::layout::{district, Layout};
+use crate::new_order::{exact_total, rates, PARTS};
 use crate::replay::command::{parse, Command};
 use crate::replay::{Engine, Lent, Replay, SecondEngine};
-use crate::request::{NewOrder, Request, Who};
+use crate::request::{Line, NewOrder, Request, Who};
 use crate::who::{self, Found};
 use crate::Outcome;
 use std::collections::BTreeMap;
@@ -51,13 +53,17 @@ fn key(answer: &str, command: &str, lent: &Lent) -> (String, u64, String) {
     (tokens[0].to_string(), number, kind)
 }
 
-/// Whose order is shown, and what was wrong that the call had no business with.
+/// How near a total is to half a cent; whose order is shown; and what was wrong that the call had no business with.
 fn committed(command: &str, lent: &Lent, customer: Option<u64>, order: Option<u64>) -> String {
     let layout = Layout::of(&lent.nums, &lent.names).expect("a book that was not refused");
-    let Command::Call(Request::OrderStatus(r)) = parse(command.as_bytes()) else {
-        return wrong_elsewhere(lent, &layout)
-            .trim_start_matches(", ")
-            .into();
+    let r = match parse(command.as_bytes()) {
+        Command::Call(Request::NewOrder(r)) => {
+            let rest = rest_of(lent, &layout, &r);
+            let kind = format!("{rest}{}", wrong_elsewhere(lent, &layout));
+            return kind.trim_start_matches(", ").into();
+        }
+        Command::Call(Request::OrderStatus(r)) => r,
+        _ => unreachable!("a committed N or S"),
     };
     let place = (r.warehouse as usize, r.district as usize);
     let order = order.unwrap_or(0) as usize;
@@ -80,6 +86,21 @@ fn committed(command: &str, lent: &Lent, customer: Option<u64>, order: Option<u6
         ", a damaged one not shown"
     };
     format!("{kind}{damaged}{}", wrong_elsewhere(lent, &layout))
+}
+
+/// How near the exact total is to half a cent, where that is one part or nothing.
+fn rest_of(lent: &Lent, layout: &Layout, r: &NewOrder) -> &'static str {
+    let nums = &lent.nums;
+    let amount = |line: &Line| line.quantity as i64 * nums[layout.price(line.item as usize)];
+    let sum = r.lines.iter().map(amount).sum();
+    let [discount, warehouse_tax, district_tax] = rates(nums, layout, r);
+    let exact = exact_total(sum, discount, warehouse_tax, district_tax);
+    match exact % PARTS - HALF {
+        -1 => "one part below half a cent",
+        0 => "exactly half a cent",
+        1 => "one part above half a cent",
+        _ => "",
+    }
 }
 
 /// Whether the slice has a number out of range, which is of another district where a call was committed.
