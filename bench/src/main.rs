@@ -48,6 +48,7 @@ fn measured(most: usize) -> (&'static str, measure::Measured) {
     checked();
     let mut books = compared(most);
     tables::passes(&books);
+    tables::searches(&books);
     tables::missed(&books);
     books.pop().expect("a book")
 }

@@ -10,7 +10,7 @@ use proved::ProvedEngine;
 use second::layout::Layout;
 use second::lists::random::Random;
 use second::replay::{Engine, Lent, SecondEngine};
-use second::Request;
+use second::{OrderStatus, Request, Who};
 use std::hint::black_box;
 use std::mem::swap;
 use std::time::Instant;
@@ -29,22 +29,20 @@ pub struct Row {
     pub to_sum: Option<f64>,
 }
 
-/// The pass over a district's last orders by itself, on the requests of New-Order: microseconds of the plain sum, of the pass written by
-/// hand and of the two engines' passes, and the quotients, by the medians as above.
-pub struct Pass {
-    pub sum: f64,
-    pub by_hand: f64,
-    pub proved: f64,
-    pub second: f64,
-    pub to_sum: f64,
-    pub to_by_hand: f64,
-    pub to_second: f64,
+/// A step of a call by itself: microseconds of the proved library's, then of each other one's, and its time as a multiple of each of those, by the
+/// medians as above.
+pub struct Step {
+    pub times: Vec<f64>,
+    pub to_others: Vec<f64>,
 }
 
 /// What was measured on one book.
 pub struct Measured {
     pub rows: Vec<Row>,
-    pub pass: Pass,
+    /// The pass over a district's last orders: proved, second engine, by hand, plain sum.
+    pub pass: Step,
+    /// The search for a last name: proved, second engine, plain sum.
+    pub search: Step,
 }
 
 const CONTENDERS: usize = 4;
@@ -116,7 +114,7 @@ impl Field {
     }
 }
 
-/// One row for each call, and the pass; each has its rounds divided by `fewer`.
+/// One row for each call, the pass and the search; each has its rounds divided by `fewer`.
 pub fn book(size: &Size, fewer: usize) -> Measured {
     let mut field = Field::on(book::make(size), size.layout());
     let mut asker = Asker::new(size, 2);
@@ -134,40 +132,84 @@ pub fn book(size: &Size, fewer: usize) -> Measured {
         "the books differ at the end"
     );
     let pass = pass(&mut field, &mut asker, 64 / fewer);
-    Measured { rows, pass }
+    let search = search(&mut field, &mut asker, 64 / fewer);
+    Measured { rows, pass, search }
 }
 
-/// The four in turn, another one first each time.
-fn pass(field: &mut Field, asker: &mut Asker, rounds: usize) -> Pass {
-    let mut spent: [Vec<f64>; 4] = Default::default();
+/// A step's contenders in turn, another one first each time, the proved library being number 0.
+fn step(rounds: usize, contenders: usize, mut time: impl FnMut(usize, usize) -> f64) -> Step {
+    let mut spent = vec![Vec::new(); contenders];
     for round in 0..rounds {
-        let requests = refused_by_12(asker.batch(Call::NewOrder, 100), field.layout.items);
-        for turn in 0..4 {
-            let which = (round + turn) % 4;
-            let Engines { proved, second, .. } = &mut field.engines;
-            let (lent, layout) = (&field.summed.lent, &field.layout);
-            let micros = match which {
-                0 => looked_at(&requests, |r| sums::used_rows(black_box(lent), layout, r)),
-                1 => own_pass(proved, &requests),
-                2 => looked_at(&requests, |r| {
-                    assert!(by_hand::passes(black_box(lent), layout, r));
-                    0
-                }),
-                _ => own_pass(second, &requests),
-            };
-            spent[which].push(micros);
+        for turn in 0..contenders {
+            let which = (round + turn) % contenders;
+            spent[which].push(time(round, which));
         }
     }
-    let quotient = |by: usize| median(spent[1].iter().zip(&spent[by]).map(|(p, s)| p / s));
-    Pass {
-        sum: median(spent[0].iter().copied()),
-        by_hand: median(spent[2].iter().copied()),
-        proved: median(spent[1].iter().copied()),
-        second: median(spent[3].iter().copied()),
-        to_sum: quotient(0),
-        to_by_hand: quotient(2),
-        to_second: quotient(3),
+    let middle = |all: &Vec<f64>| median(all.iter().copied());
+    let quotient = |by: &Vec<f64>| median(spent[0].iter().zip(by).map(|(p, o)| p / o));
+    Step {
+        times: spent.iter().map(middle).collect(),
+        to_others: spent[1..].iter().map(quotient).collect(),
     }
+}
+
+/// The pass over a district's last orders, on the requests of New-Order.
+fn pass(field: &mut Field, asker: &mut Asker, rounds: usize) -> Step {
+    let batches: Vec<_> = (0..rounds)
+        .map(|_| refused_by_12(asker.batch(Call::NewOrder, 100), field.layout.items))
+        .collect();
+    let Engines { proved, second, .. } = &mut field.engines;
+    let (lent, layout) = (&field.summed.lent, &field.layout);
+    step(rounds, 4, |round, which| {
+        let requests = &batches[round];
+        match which {
+            0 => own_pass(proved, requests),
+            1 => own_pass(second, requests),
+            2 => looked_at(requests, |r| {
+                assert!(by_hand::passes(black_box(lent), layout, r));
+                0
+            }),
+            _ => looked_at(requests, |r| sums::used_rows(black_box(lent), layout, r)),
+        }
+    })
+}
+
+/// The search for a last name, on the requests of Order-Status by name.
+fn search(field: &mut Field, asker: &mut Asker, rounds: usize) -> Step {
+    let batches: Vec<_> = (0..rounds)
+        .map(|_| renamed(asker.batch(Call::StatusByName, 45), nobodys))
+        .collect();
+    let Engines { proved, second, .. } = &mut field.engines;
+    let (lent, layout) = (&field.summed.lent, &field.layout);
+    step(rounds, 3, |round, which| {
+        let requests = &batches[round];
+        match which {
+            0 => own_search(proved, requests),
+            1 => own_search(second, requests),
+            _ => looked_at(requests, |r| sums::last_names(black_box(lent), layout, r)),
+        }
+    })
+}
+
+/// The requests by name with other names.
+fn renamed(requests: Vec<Request>, other: impl Fn(&mut Vec<u8>)) -> Vec<Request> {
+    let mut renamed = requests;
+    for request in &mut renamed {
+        if let Request::OrderStatus(OrderStatus {
+            who: Who::LastName(name),
+            ..
+        }) = request
+        {
+            other(name);
+        }
+    }
+    renamed
+}
+
+/// Another last letter, with which none of TPC-C's names ends: a district has all of those.
+fn nobodys(name: &mut Vec<u8>) {
+    name.pop();
+    name.push(b'Q');
 }
 
 /// Orders of one line whose item the book lacks: each is refused behind the pass and writes nothing.
@@ -197,6 +239,15 @@ fn own_pass<E: Engine>(book: &mut InBook<E>, requests: &[Request]) -> f64 {
     let before = carried(book, requests);
     book.lent.last.extend(cut);
     behind - before
+}
+
+/// Microseconds of the search inside an engine's Order-Status: what the requests take, refused by 10 behind it, less what the same take without a
+/// name, refused by 10 with nothing to look for. Rows and names are judged before, in both.
+fn own_search<E: Engine>(book: &mut InBook<E>, requests: &[Request]) -> f64 {
+    let nameless = renamed(requests.to_vec(), Vec::clear);
+    let mut refused = requests.iter().chain(&nameless);
+    assert!(refused.all(|request| book.answer(request) == [10, 0]));
+    carried(book, requests) - carried(book, &nameless)
 }
 
 /// Microseconds a request of an engine, after a turn that is not timed.

@@ -2,7 +2,8 @@
 
 use crate::book::used_numbers;
 use crate::requests::Call;
-use second::layout::{district, order, Layout};
+use second::layout::{district, order, Layout, NAMES_WIDTH};
+use second::ranges::NAME_BYTES;
 use second::replay::Lent;
 use second::{Request, Who};
 
@@ -63,6 +64,18 @@ fn customers(lent: &Lent, layout: &Layout, (w, d): (usize, usize), who: &Who) ->
 /// The last orders of a district's customers.
 pub fn last_orders(lent: &Lent, layout: &Layout, (w, d): (u64, u64)) -> i64 {
     sum(&lent.last[layout.last_orders_of(w as usize, d as usize)])
+}
+
+/// The last names of all customers of a status's district.
+pub fn last_names(lent: &Lent, layout: &Layout, request: &Request) -> i64 {
+    let Request::OrderStatus(r) = request else {
+        panic!("a status is asked for");
+    };
+    lent.names[layout.names_of(r.warehouse as usize, r.district as usize)]
+        .chunks_exact(NAMES_WIDTH)
+        .fold(0, |all: i64, names| {
+            all.wrapping_add(sum_bytes(&names[..NAME_BYTES]))
+        })
 }
 
 /// The order that a customer's last order names; by name, which is not searched for, that of any customer.

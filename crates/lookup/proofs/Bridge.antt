@@ -3,7 +3,7 @@
 use mathlib.Core.Path.{_≡_, sym, ap, _∙_, fun-ext}
 use mathlib.Core.Bool.{Bool, true, false}
 use mathlib.Core.List.{List}
-use Prim.Native.Nat.{ℕ, _+_, _-_, _*_, _<_, _≤_}
+use Prim.Native.Nat.{ℕ, _+_, _-_, _*_, _<_, _≤_, _^_}
 use native.Mathlib.Omega.{arith}
 use lib.Dec.{ltb}
 use lib.ListN.{length, getD, take}
@@ -50,11 +50,12 @@ module _ (names : List ℕ) (base : ℕ) where
   unfolding beforeFrom
   from-total a b e n = order-total (λ c. nameAt names (base + 32 * (c - 1) + 16)) a b e n
 
-  pub listed : (count : ℕ) (test : ℕ → Bool) (list : List ℕ) (n i : ℕ) → take n list ≡ sorted (beforeFrom names base) (passing test i) → base + 32 * count ≤ length names → n ≤ length list
+  pub listed : (count : ℕ) (test : ℕ → Bool) (list : List ℕ) (n i : ℕ) → take n list ≡ sorted (beforeFrom names base) (passing test i) → base + 32 * count ≤ length names → count < 2 ^ 16 → n ≤ length list
       → i < count → Listed names base count list n (i + 1)
-  listed count test list n i e r m h =
+  listed count test list n i e r f m h =
       record {
         reach = r;
+        few = f;
         room = m;
         low = omega arith;
         high = omega arith;

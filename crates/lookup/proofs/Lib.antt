@@ -1,5 +1,6 @@
 -- Laws of this crate's code.
 pub mod Bytes
 pub mod Inserting
+pub mod Extremes
 pub mod Bridge
 pub mod Who

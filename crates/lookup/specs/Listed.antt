@@ -2,10 +2,10 @@
 -- No rule of the book is here: proofs/Bridge joins each of these to the model's definition.
 -- Assumes nothing.
 use mathlib.Core.Path.{_≡_}
-use mathlib.Core.Bool.{Bool, true, _&&_, cond}
+use mathlib.Core.Bool.{Bool, true, cond}
 use mathlib.Core.List.{List, [], _∷_}
-use Prim.Native.Nat.{ℕ, suc, _+_, _-_, _*_, _≤_, _<_}
-use lib.Dec.{leb, ltb}
+use Prim.Native.Nat.{ℕ, suc, _+_, _-_, _*_, _≤_, _<_, _^_}
+use lib.Dec.{ltb}
 use lib.ListN.{length, getD, take}
 use Rattle.model.specs.Names.{nameAt, nameOk, compareNames, isEqual, smallerOr}
 use Rattle.model.specs.Claim.{R}
@@ -20,9 +20,6 @@ beforeFrom names base a c = smallerOr (compareNames (nameAt names (base + 32 * (
 unfoldable pub nameOkFrom : List ℕ → ℕ → ℕ → Bool
 nameOkFrom names base c = nameOk names (base + 32 * (c - 1))
 
-unfoldable pub byteOkFrom : List ℕ → ℕ → ℕ → Bool
-byteOkFrom names p j = leb 32 (getD names (p + (j - 1)) 0) && leb (getD names (p + (j - 1)) 0) 126
-
 -- where an insertion puts x, from 0
 abbrev pub insertPlace : (ℕ → ℕ → Bool) → ℕ → List ℕ → ℕ
 insertPlace comes x [] = 0
@@ -31,6 +28,7 @@ insertPlace comes x (y ∷ ys) = cond (comes x y) 0 (suc (insertPlace comes x ys
 -- the first n of a list are customers of the district in order, and c is a customer
 pub record Listed (names : List ℕ) (base count : ℕ) (list : List ℕ) (n c : ℕ) : Type 0 where
   pub reach : base + 32 * count ≤ length names
+  pub few : count < 2 ^ 16
   pub room : n ≤ length list
   pub low : 1 ≤ c
   pub high : c ≤ count

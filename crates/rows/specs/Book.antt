@@ -3,13 +3,13 @@
 use mathlib.Core.Path.{_≡_}
 use mathlib.Core.Bool.{Bool}
 use mathlib.Core.List.{List}
-use Prim.Native.Nat.{ℕ, _+_, _-_}
+use Prim.Native.Nat.{ℕ, _+_, _-_, _*_}
 use lib.ListN.{length}
 use lib.IntN.{ℤ}
 use Rattle.model.specs.declared.Dims.{Dims}
 use Rattle.model.specs.Tests.{every, allTo}
 use Rattle.model.specs.Layout.{numbers}
-use Rattle.model.specs.Rows.{line, lineTests, orderOk}
+use Rattle.model.specs.Rows.{customerTests, line, lineTests, orderOk}
 use Rattle.model.specs.Store.{from}
 use Rattle.model.specs.Used.{orderUsed}
 use Rattle.model.proofs.Fields.{Dimensioned}
@@ -23,6 +23,10 @@ pub record Booked (d : Dims) (b : List ℤ) : Type 0 where
 -- the first n lines of an order's row are in range
 abbrev pub linesOk : Dims → (ℕ → ℤ) → ℕ → Bool
 linesOk d r n = allTo n (λ j. every (lineTests d (line r j)))
+
+-- row c, from 1, of the customers' rows from an index on is in range
+unfoldable pub customerIn : List ℤ → ℕ → ℕ → Bool
+customerIn b base c = every (customerTests (from b (base + 6 * (c - 1))))
 
 -- row j, from 1, of a run of orders' rows is in range
 unfoldable pub okAt : Dims → List ℤ → Run → ℕ → Bool

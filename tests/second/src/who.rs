@@ -39,7 +39,7 @@ fn by_last_name(names: &[u8], last_name: &[u8]) -> Found {
 }
 
 /// A last name padded with spaces; none where it is empty or too long.
-fn padded(last_name: &[u8]) -> Option<[u8; NAME_BYTES]> {
+pub fn padded(last_name: &[u8]) -> Option<[u8; NAME_BYTES]> {
     if last_name.is_empty() || last_name.len() > NAME_BYTES {
         return None;
     }

@@ -71,7 +71,7 @@ fn every_answer_is_reached() {
             .filter(|((w, n, _), _)| w == word && *n == number);
         same.map(|(_, times)| times).sum()
     };
-    let answers: [(&str, &[u64]); 8] = [
+    let answers: [(&str, &[u64]); 9] = [
         ("OPEN", &[0, 2, 3]),
         ("N", &[0, 2, 4, 5, 6, 7, 8, 9, 11, 12, 13]),
         ("P", &[0, 2, 4, 5, 6, 7, 8, 9, 10, 11]),
@@ -80,6 +80,7 @@ fn every_answer_is_reached() {
         ("L", &[0, 2, 4, 5, 8, 9]),
         ("READ", &[0, 1]),
         ("WRITE", &[0, 1]),
+        ("=", &[0, 10]),
     ];
     for (word, numbers) in answers {
         for &number in numbers {
@@ -141,6 +142,38 @@ fn every_kind_is_reached() {
     ] {
         let times = reached(word, number, kind);
         assert!(times >= 25, "{word} {number}, {kind}: {times} times");
+    }
+}
+
+/// Searches by name that a comparison by words of eight bytes could get wrong: by the wanted name, where another differs in one byte or one word
+/// alone, and by the first names of namesakes.
+#[test]
+fn every_kind_of_search_is_reached() {
+    let counts = stats::count(11, 2_000);
+    let check = |number: u64, kind: &str, least: u64| {
+        let key = ("=".to_string(), number, kind.to_string());
+        let times = counts.get(&key).copied().unwrap_or(0);
+        assert!(times >= least, "= {number}, {kind}: {times} times");
+    };
+    for place in 1..=16 {
+        check(10, &format!("last names differ in byte {place} alone"), 25);
+    }
+    for number in [0, 10] {
+        check(number, "last names differ in the first eight alone", 100);
+        check(number, "last names differ in the second eight alone", 100);
+        check(number, "last names differ in byte 16 alone", 25);
+    }
+    check(10, "a wanted byte from 128 on", 100);
+    for (kind, least) in [
+        ("equal", 500),
+        ("differ in byte 8 alone", 25),
+        ("differ in byte 9 alone", 25),
+        ("differ in byte 16 alone", 25),
+        ("differ in the first eight alone", 100),
+        ("differ in the second eight alone", 100),
+        ("differ in both eights", 100),
+    ] {
+        check(0, &format!("first names {kind}"), least);
     }
 }
 

@@ -5,7 +5,7 @@ use Rattle.lookup.proofs.comes_before.Statement.{statement}
 use Rattle.lookup.proofs.comes_before.Tie as tie
 use Rattle.lookup.proofs.comes_before.Reads as reads
 use Rattle.lookup.proofs.comes_before.Lts as lts
-use Rattle.lookup.proofs.compare_names.Reads as compare-names-reads
+use Rattle.words.proofs.compare_names.Reads as compare-names-reads
 
 sub-compare-names : tie.Need-sub-compare-names
 sub-compare-names c = search needs
@@ -46,17 +46,17 @@ enum-told-3 c = search needs
 returns : tie.Need-returns
 unfolding beforeFrom
 returns c =
-    rw (← c .before .before .compare-names .ensures, c .enum-told .given .1)
+    rw (← c .before .before .compare-names .ensures .1, c .enum-told .given .1)
 
 returns-2 : tie.Need-returns-2
 unfolding beforeFrom
 returns-2 c =
-    rw (← c .before .before .compare-names .ensures, c .enum-told2 .given .1)
+    rw (← c .before .before .compare-names .ensures .1, c .enum-told2 .given .1)
 
 returns-3 : tie.Need-returns-3
 unfolding beforeFrom
 returns-3 c =
-    rw (← c .before .before .compare-names .ensures, c .enum-told3 .given .1)
+    rw (← c .before .before .compare-names .ensures .1, c .enum-told3 .given .1)
 
 pub comes-before-spec : {M : Type 1} → statement M
 comes-before-spec =

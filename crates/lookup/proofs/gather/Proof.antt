@@ -27,7 +27,7 @@ add-consider c = search needs
 
 consider-requires : tie.Need-consider-requires Inv-loop μ-loop
 consider-requires c κs =
-    (search needs, (search needs, listed (c .before .before .before .before .before .before .args .names .now) (c .before .before .before .before .before .before .args .base) (c .before .before .before .before .before .before .args .count) (namedFrom (c .before .before .before .before .before .before .args .names .now) (c .before .before .before .before .before .before .args .base) (c .before .before .before .before .before .before .args .name .now)) (c .before .before .loop .list) (c .before .before .loop .n) (c .before .before .loop .i) (c .before .before .loop .inv .1 .1 .1) (c .before .before .before .before .before .before .pre .0) (search needs) (c .before .loop-test .taken)))
+    (search needs, (search needs, listed (c .before .before .before .before .before .before .args .names .now) (c .before .before .before .before .before .before .args .base) (c .before .before .before .before .before .before .args .count) (namedFrom (c .before .before .before .before .before .before .args .names .now) (c .before .before .before .before .before .before .args .base) (c .before .before .before .before .before .before .args .name .now)) (c .before .before .loop .list) (c .before .before .loop .n) (c .before .before .loop .i) (c .before .before .loop .inv .1 .1 .1) (c .before .before .before .before .before .before .pre .0) (c .before .before .before .before .before .before .pre .1 .0) (search needs) (c .before .loop-test .taken)))
 
 add-i : tie.Need-add-i Inv-loop μ-loop
 add-i c = search needs

@@ -25,6 +25,10 @@ mul-comes-before c = search needs
 shared-slice-read-comes-before : tie.Need-shared-slice-read-comes-before
 shared-slice-read-comes-before c = search needs
 
+cast-comes-before : tie.Need-cast-comes-before
+cast-comes-before c =
+    omega (arith, c .before .before .before .shared-slice-known2 .given (c .before .before .before .before .before .args .at .low + (c .before .before .before .before .before .args .at .high - c .before .before .before .before .before .args .at .low) / 2))
+
 comes-before-requires : tie.Need-comes-before-requires
 comes-before-requires c κs =
     let m : ℕ = c .before .before .before .before .before .args .at .low + (c .before .before .before .before .before .args .at .high - c .before .before .before .before .before .args .at .low) / 2 in
@@ -57,6 +61,7 @@ halve-spec =
     add-mid
     mul-comes-before
     shared-slice-read-comes-before
+    cast-comes-before
     comes-before-requires
     returns
     add-t10

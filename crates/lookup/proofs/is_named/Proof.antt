@@ -7,7 +7,7 @@ use Rattle.lookup.proofs.is_named.Statement.{statement}
 use Rattle.lookup.proofs.is_named.Tie as tie
 use Rattle.lookup.proofs.is_named.Reads as reads
 use Rattle.lookup.proofs.is_named.Lts as lts
-use Rattle.lookup.proofs.compare_names.Reads as compare-names-reads
+use Rattle.words.proofs.compare_names.Reads as compare-names-reads
 
 sub-compare-names : tie.Need-sub-compare-names
 sub-compare-names c = search needs
@@ -32,15 +32,15 @@ enum-told-3 c = search needs
 
 returns : tie.Need-returns
 returns c =
-    sym (named-by _ _ _ _ _ (c .before .before .before .before .before .pre .1 .1) (c .before .before .compare-names .ensures) ∙ ap isEqual (c .enum-told .given .1))
+    sym (named-by _ _ _ _ _ (c .before .before .before .before .before .pre .1 .1) (c .before .before .compare-names .ensures .1) ∙ ap isEqual (c .enum-told .given .1))
 
 returns-2 : tie.Need-returns-2
 returns-2 c =
-    sym (named-by _ _ _ _ _ (c .before .before .before .before .before .pre .1 .1) (c .before .before .compare-names .ensures) ∙ ap isEqual (c .enum-told2 .given .1))
+    sym (named-by _ _ _ _ _ (c .before .before .before .before .before .pre .1 .1) (c .before .before .compare-names .ensures .1) ∙ ap isEqual (c .enum-told2 .given .1))
 
 returns-3 : tie.Need-returns-3
 returns-3 c =
-    sym (named-by _ _ _ _ _ (c .before .before .before .before .before .pre .1 .1) (c .before .before .compare-names .ensures) ∙ ap isEqual (c .enum-told3 .given .1))
+    sym (named-by _ _ _ _ _ (c .before .before .before .before .before .pre .1 .1) (c .before .before .compare-names .ensures .1) ∙ ap isEqual (c .enum-told3 .given .1))
 
 pub is-named-spec : {M : Type 1} → statement M
 is-named-spec =

@@ -17,13 +17,13 @@ abbrev μ-loop : tie.MeasureT-loop
 
 loop-holds : tie.Need-loop-holds Inv-loop μ-loop
 loop-holds c =
-    (search needs, (search needs, (search needs, paste-zero (replicate 16 32) 0 (c .args .wanted .now))))
+    (search needs, (search needs, (search needs, c .pre .1 ∙ paste-zero (replicate 16 32) 0 (c .args .wanted .now))))
 
 shared-slice-read-name : tie.Need-shared-slice-read-name Inv-loop μ-loop
 shared-slice-read-name c = search needs
 
-array-write-name : tie.Need-array-write-name Inv-loop μ-loop
-array-write-name c = search needs
+element-write-name : tie.Need-element-write-name Inv-loop μ-loop
+element-write-name c = search needs
 
 add-i : tie.Need-add-i Inv-loop μ-loop
 add-i c = search needs
@@ -47,7 +47,7 @@ pad-spec =
     μ-loop
     loop-holds
     shared-slice-read-name
-    array-write-name
+    element-write-name
     add-i
     loop-less
     loop-again

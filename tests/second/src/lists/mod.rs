@@ -3,6 +3,7 @@
 pub mod book_lines;
 pub mod books;
 pub mod last;
+pub mod names;
 pub mod random;
 pub mod requests;
 pub mod stats;
@@ -40,7 +41,7 @@ pub fn list(seed: u64, number: u64) -> String {
 }
 
 fn any_list(random: &mut Random) -> String {
-    match random.weighted(&[22, 6, 18, 7, 6, 7, 7, 3, 3, 14, 7, 4, 12]) {
+    match random.weighted(&[22, 6, 18, 7, 6, 7, 7, 3, 3, 16, 7, 4, 12, 14]) {
         0 => opened(random),
         1 => filled(random),
         2 => never_opened(random),
@@ -53,7 +54,8 @@ fn any_list(random: &mut Random) -> String {
         9 => last_orders(random),
         10 => neighbours(random),
         11 => long_history(random),
-        _ => half_cents(random),
+        12 => half_cents(random),
+        _ => close_names(random),
     }
 }
 
@@ -251,6 +253,31 @@ fn half_cents(random: &mut Random) -> String {
     for order in orders.into_iter().cycle().take(6) {
         push(&mut text, &Request::NewOrder(order));
         let count = random.below(2);
+        ask(random, &mut text, asker, &MIXED, count);
+    }
+    text
+}
+
+/// Searches by name where names are equal in one word of eight bytes, or in all bytes but one, among other calls.
+fn close_names(random: &mut Random) -> String {
+    let mut layout = books::crowded(random);
+    let most = *random.pick(&[6, 12, 38]);
+    layout.customers = 3 + random.below(most);
+    layout.history_slots = layout.history_slots.max(20);
+    let new = random.percent(60);
+    let mut book = match new {
+        true => books::fresh(random, layout),
+        false => books::in_use(random, layout),
+    };
+    names::set(random, &mut book);
+    let mut text = lend(&book.lent);
+    if new {
+        text.push_str("OPEN\n");
+    }
+    let asker = &mut Asker::new(&book, 30);
+    for _ in 0..12 {
+        push(&mut text, &names::search(random, &book));
+        let count = usize::from(random.percent(25));
         ask(random, &mut text, asker, &MIXED, count);
     }
     text

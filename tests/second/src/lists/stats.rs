@@ -2,16 +2,18 @@
 
 use super::totals::HALF;
 use crate::checks;
-use crate::layout::{district, Layout};
+use crate::layout::{district, Layout, NAMES_WIDTH};
 use crate::new_order::{exact_total, rates, PARTS};
+use crate::ranges::NAME_BYTES;
 use crate::replay::command::{parse, Command};
 use crate::replay::{Engine, Lent, Replay, SecondEngine};
 use crate::request::{Line, NewOrder, Request, Who};
 use crate::who::{self, Found};
 use crate::Outcome;
-use std::collections::BTreeMap;
+use std::collections::{BTreeMap, BTreeSet};
 
-/// Counts of answers, by word and number and, where it tells more, by kind.
+/// Counts of answers, by word and number and, where it tells more, by kind. Searches by name count once more, by the word `=` and each kind that
+/// they are of.
 pub type Counts = BTreeMap<(String, u64, String), u64>;
 
 /// Runs the lists through the second engine and counts the answers.
@@ -22,7 +24,12 @@ pub fn count(seed: u64, lists: u64) -> Counts {
         let mut replay = Replay::new(&mut engine);
         for line in super::list(seed, number).lines() {
             if let Some(answer) = replay.step(line.as_bytes()) {
-                let key = key(&answer, line, &replay.slices.lent);
+                let lent = &replay.slices.lent;
+                let key = key(&answer, line, lent);
+                for kind in searched(&answer, line, lent) {
+                    let search = ("=".to_string(), key.1, kind);
+                    *counts.entry(search).or_insert(0) += 1;
+                }
                 *counts.entry(key).or_insert(0) += 1;
             }
         }
@@ -182,5 +189,67 @@ fn behind(lent: &Lent, layout: &Layout, order: &NewOrder) -> String {
     match SecondEngine.new_order(&mut lent, order) {
         Outcome::Refused(refusal) => format!(", before {}", refusal.number),
         Outcome::Committed(_) => String::new(),
+    }
+}
+
+/// The kinds of a search by name that found a customer or nobody: how the wanted last name differs from those of other customers, and the first
+/// name of the customer found from those of its namesakes.
+fn searched(answer: &str, command: &str, lent: &Lent) -> BTreeSet<String> {
+    let mut kinds = BTreeSet::new();
+    let figures = answer.split(' ').skip(1).map_while(|f| f.parse().ok());
+    let found: usize = match figures.collect::<Vec<_>>()[..] {
+        [0, customer, ..] => customer,
+        [10, ..] => 0,
+        _ => return kinds,
+    };
+    let Some(((w, d), name)) = wanted(command) else {
+        return kinds;
+    };
+    if name.iter().any(|&byte| byte >= 128) {
+        kinds.insert("a wanted byte from 128 on".into());
+    }
+    let Some(wanted) = who::padded(&name) else {
+        return kinds;
+    };
+    let layout = Layout::of(&lent.nums, &lent.names).expect("a book that was not refused by 2");
+    let names = &lent.names[layout.names_of(w as usize, d as usize)];
+    let rows: Vec<_> = names.chunks_exact(NAMES_WIDTH).collect();
+    for (row, number) in rows.iter().zip(1..) {
+        let (last, first) = row.split_at(NAME_BYTES);
+        if last != wanted {
+            kinds.insert(format!("last names {}", difference(last, &wanted)));
+        } else if number != found {
+            let of_found = &rows[found - 1][NAME_BYTES..];
+            kinds.insert(format!("first names {}", difference(first, of_found)));
+        }
+    }
+    kinds
+}
+
+/// The customer's warehouse and district and the wanted last name of a Payment or an Order-Status by name.
+fn wanted(command: &str) -> Option<((u64, u64), Vec<u8>)> {
+    let (place, who) = match parse(command.as_bytes()) {
+        Command::Call(Request::Payment(r)) => ((r.customer_warehouse, r.customer_district), r.who),
+        Command::Call(Request::OrderStatus(r)) => ((r.warehouse, r.district), r.who),
+        _ => return None,
+    };
+    match who {
+        Who::LastName(name) => Some((place, name)),
+        Who::Number(_) => None,
+    }
+}
+
+/// In which of their bytes two names differ.
+fn difference(one: &[u8], other: &[u8]) -> String {
+    let differ = |place: &usize| one[*place] != other[*place];
+    let mut places = (0..NAME_BYTES).filter(differ);
+    let Some(first) = places.next() else {
+        return "equal".into();
+    };
+    match places.next_back() {
+        None => format!("differ in byte {} alone", first + 1),
+        Some(_) if first >= 8 => "differ in the second eight alone".into(),
+        Some(last) if last < 8 => "differ in the first eight alone".into(),
+        Some(_) => "differ in both eights".into(),
     }
 }

@@ -1,0 +1,78 @@
+use Rattle.lookup.specs.Extremes.{least, most}
+use Rattle.lookup.proofs.Extremes.{Noting, noting-none, noting-step, noting-end}
+use Prim.Native.Nat.{_≤_, _-_}
+use borrow.Author.Needs.{needs}
+use Rattle.lookup.proofs.note_name.Statement.{statement}
+use Rattle.lookup.proofs.note_name.Tie as tie
+use Rattle.lookup.proofs.note_name.Reads as reads
+use Rattle.lookup.proofs.note_name.Lts as lts
+use Rattle.lookup.proofs.least.Reads as least-reads
+use Rattle.lookup.proofs.most.Reads as most-reads
+
+abbrev Inv-loop : tie.InvT-loop
+Inv-loop names p low₀ high₀ j₀ low high j = (j ≤ 32) × (Noting least names p low₀ low j × Noting most names p high₀ high j)
+
+abbrev μ-loop : tie.MeasureT-loop
+μ-loop names p low₀ high₀ j₀ low high j = 32 - j
+
+loop-holds : tie.Need-loop-holds Inv-loop μ-loop
+loop-holds c =
+    (search needs, (noting-none (c .before .pre .1 .0), noting-none (c .before .pre .1 .1)))
+
+add-x : tie.Need-add-x Inv-loop μ-loop
+add-x c = search needs
+
+shared-slice-read-x : tie.Need-shared-slice-read-x Inv-loop μ-loop
+shared-slice-read-x c = search needs
+
+element-copy-out-least : tie.Need-element-copy-out-least Inv-loop μ-loop
+element-copy-out-least c = search needs
+
+least-requires : tie.Need-least-requires Inv-loop μ-loop
+least-requires c κs = search needs
+
+element-write-low : tie.Need-element-write-low Inv-loop μ-loop
+element-write-low c = search needs
+
+element-copy-out-most : tie.Need-element-copy-out-most Inv-loop μ-loop
+element-copy-out-most c = search needs
+
+most-requires : tie.Need-most-requires Inv-loop μ-loop
+most-requires c κs = search needs
+
+element-write-high : tie.Need-element-write-high Inv-loop μ-loop
+element-write-high c = search needs
+
+add-j : tie.Need-add-j Inv-loop μ-loop
+add-j c = search needs
+
+loop-less : tie.Need-loop-less Inv-loop μ-loop
+loop-less c = search needs
+
+loop-again : tie.Need-loop-again Inv-loop μ-loop
+loop-again c =
+    (search needs, (noting-step (c .before .before .before .before .before .loop-test .taken) (c .before .before .before .before .before .before .loop .inv .1 .0) (c .before .before .least .ensures), noting-step (c .before .before .before .before .before .loop-test .taken) (c .before .before .before .before .before .before .loop .inv .1 .1) (c .most .ensures)))
+
+returns : tie.Need-returns Inv-loop μ-loop
+returns c =
+    (noting-end (c .loop-test .left) (c .before .loop .inv .1 .0), noting-end (c .loop-test .left) (c .before .loop .inv .1 .1))
+
+pub note-name-spec : {M : Type 1} → statement M
+note-name-spec =
+    tie.close
+    (tie.spec
+    Inv-loop
+    μ-loop
+    loop-holds
+    add-x
+    shared-slice-read-x
+    element-copy-out-least
+    least-requires
+    element-write-low
+    element-copy-out-most
+    most-requires
+    element-write-high
+    add-j
+    loop-less
+    loop-again
+    returns)

@@ -1,0 +1,3 @@
+-- Laws of the crate's code.
+pub mod Words
+pub mod Cases

@@ -1,0 +1,2 @@
+-- R-3's definitions, which the contracts cite.
+pub mod Words
