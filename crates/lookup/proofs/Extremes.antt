@@ -7,11 +7,9 @@ use Prim.Native.Nat.{ℕ, zero, suc, _+_, _-_, _*_, _<_, _≤_}
 use native.Mathlib.Nat.{add-zero}
 use native.Mathlib.Numerals.{add-one}
 use native.Mathlib.Omega.{arith}
-use native.Mathlib.Decide.{ℕ-discrete}
 use borrow.Author.Tests.{ltb-true, ltb-false, leb-true, leb-false, le-leb, eqb-true, eqb-false}
 use lib.Dec.{leb, ltb, eqb}
-use lib.ListN.{length, getD, set, replicate, getD-replicate, length-replicate, length-set}
-use lib.Seq.{getD-set-same, getD-set-other}
+use lib.ListN.{length, getD, replicate, getD-replicate, length-replicate}
 use Rattle.model.specs.Tests.{allTo}
 use Rattle.model.specs.Names.{nameOk}
 use Rattle.model.specs.Claim.{R}
@@ -54,34 +52,6 @@ least-splits b x y = splits (leb b) (ltb x y) x y (λ e p. le-leb b y (omega (ar
 most-splits : (b x y : ℕ) → leb (most x y) b ≡ (leb x b && leb y b)
 unfolding most
 most-splits b x y = splits (λ z. leb z b) (ltb y x) x y (λ e p. le-leb y b (omega (arith, ltb-true, leb-true))) (λ e p. le-leb x b (omega (arith, ltb-false, leb-true)))
-
--- ── one name: below j the choice is made, from j on nothing is changed ──
-pub record Noting (pick : ℕ → ℕ → ℕ) (names : List ℕ) (p : ℕ) (old new : List ℕ) (j : ℕ) : Type 0 where
-  pub size : length new ≡ 32
-  pub done : (i : ℕ) → i < j → getD new i 0 ≡ pick (getD old i 0) (getD names (p + i) 0)
-  pub rest : (i : ℕ) → j ≤ i → getD new i 0 ≡ getD old i 0
-
-module _ {pick : ℕ → ℕ → ℕ} {names : List ℕ} {p : ℕ} {old : List ℕ} where
-  pub noting-none : length old ≡ 32 → Noting pick names p old old 0
-  noting-none e = record { size = e; done = λ i h. absurd (omega arith); rest = λ i h. refl }
-
-  pub noting-step : {new : List ℕ} {j v : ℕ} → j < 32 → Noting pick names p old new j → v ≡ pick (getD new j 0) (getD names (p + j) 0) → Noting pick names p old (set new j v) (j + 1)
-  noting-step {new} {j} {v} h s e =
-      record {
-        size = length-set new j v ∙ s .size;
-        done = λ i k. at i k (ℕ-discrete i j);
-        rest = λ i k. getD-set-other new j i v 0 (λ q. omega arith) ∙ s .rest i (omega arith);
-      }
-    where
-      here : getD (set new j v) j 0 ≡ pick (getD old j 0) (getD names (p + j) 0)
-      here = getD-set-same new j v 0 (omega (arith, s .size)) ∙ e ∙ rw (s .rest j (omega arith))
-
-      at : (i : ℕ) → i < j + 1 → Dec (i ≡ j) → getD (set new j v) i 0 ≡ pick (getD old i 0) (getD names (p + i) 0)
-      at i k (yes q) = rw q here
-      at i k (no q) = getD-set-other new j i v 0 q ∙ s .done i (omega arith)
-
-  pub noting-end : {new : List ℕ} {j : ℕ} → 32 ≤ j → Noting pick names p old new j → Noted pick names p old new
-  noting-end h s = record { size = s .size; at = λ i k. s .done i (omega arith) }
 
 -- ── a run of names: at each place the choice of z and the bytes of customers 1 .. n ──
 unfoldable pub chosenTo : (ℕ → ℕ → ℕ) → ℕ → (ℕ → ℕ) → ℕ → ℕ

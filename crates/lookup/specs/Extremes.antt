@@ -4,10 +4,11 @@
 use mathlib.Core.Path.{_≡_}
 use mathlib.Core.Bool.{Bool, _&&_, cond}
 use mathlib.Core.List.{List}
-use Prim.Native.Nat.{ℕ, _+_, _-_, _<_}
+use Prim.Native.Nat.{ℕ, _+_, _-_}
 use lib.Dec.{leb, ltb}
-use lib.ListN.{length, getD}
+use lib.ListN.{getD}
 use Rattle.model.specs.Tests.{allTo}
+use Rattle.rows.specs.Rough.{Rewritten}
 
 unfoldable pub least : ℕ → ℕ → ℕ
 least x y = cond (ltb x y) x y
@@ -16,9 +17,8 @@ unfoldable pub most : ℕ → ℕ → ℕ
 most x y = cond (ltb y x) x y
 
 -- at each place the choice between what stood there and the byte of the names at p
-pub record Noted (pick : ℕ → ℕ → ℕ) (names : List ℕ) (p : ℕ) (old new : List ℕ) : Type 0 where
-  pub size : length new ≡ 32
-  pub at : (j : ℕ) → j < 32 → getD new j 0 ≡ pick (getD old j 0) (getD names (p + j) 0)
+abbrev pub Noted : (ℕ → ℕ → ℕ) → List ℕ → ℕ → List ℕ → List ℕ → Type 0
+Noted pick names p = Rewritten 32 (λ j x y. y ≡ pick x (getD names (p + j) 0))
 
 -- place j, from 1, is in range
 unfoldable pub placeOk : List ℕ → List ℕ → ℕ → Bool

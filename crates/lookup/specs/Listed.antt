@@ -2,7 +2,7 @@
 -- No rule of the book is here: proofs/Bridge joins each of these to the model's definition.
 -- Assumes nothing.
 use mathlib.Core.Path.{_≡_}
-use mathlib.Core.Bool.{Bool, true, cond}
+use mathlib.Core.Bool.{Bool, true, false, cond}
 use mathlib.Core.List.{List, [], _∷_}
 use Prim.Native.Nat.{ℕ, suc, _+_, _-_, _*_, _≤_, _<_, _^_}
 use lib.Dec.{ltb}
@@ -13,6 +13,10 @@ use Rattle.lookup.specs.declared.Places.{Places}
 
 unfoldable pub namedFrom : List ℕ → ℕ → List ℕ → ℕ → Bool
 namedFrom names base name c = isEqual (compareNames (nameAt names (base + 32 * (c - 1))) name)
+
+-- none of the customers behind i, up to r, has the last name
+abbrev pub Unnamed : List ℕ → ℕ → List ℕ → ℕ → ℕ → Type 0
+Unnamed names base name i r = (c : ℕ) → i < c → c ≤ r → namedFrom names base name c ≡ false
 
 unfoldable pub beforeFrom : List ℕ → ℕ → ℕ → ℕ → Bool
 beforeFrom names base a c = smallerOr (compareNames (nameAt names (base + 32 * (a - 1) + 16)) (nameAt names (base + 32 * (c - 1) + 16))) (ltb a c)

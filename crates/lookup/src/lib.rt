@@ -10,7 +10,7 @@ ghost use Rattle.model.specs.Used.{customersUsed, namesUsed};
 ghost use Rattle.model.specs.Claim.{R};
 ghost use Rattle.model.proofs.Fields.{Dimensioned};
 ghost use Rattle.rows.specs.Book.{Booked};
-ghost use Rattle.lookup.specs.Listed.{namedFrom, beforeFrom, nameOkFrom, insertPlace, Listed, Holds};
+ghost use Rattle.lookup.specs.Listed.{namedFrom, Unnamed, beforeFrom, nameOkFrom, insertPlace, Listed, Holds};
 ghost use Rattle.lookup.specs.Extremes.{least, most, Noted, extremesOk};
 use model::Comparison;
 use model::Dims;
@@ -129,14 +129,33 @@ fn consider(
     n
 }
 
+// How many customers to pass by, of which the first `from` are behind us: up to the next whose last name starts with the wanted eight bytes.
+fn next_alike(names: &[u8], base: u64, count: u64, name: &[u8], from: u64) -> u64
+    requires { ⌜ (base + 32 * count ≤ length (now names)) × ((length (now name) ≡ 16) × (from ≤ count)) ⌝ }
+    ensures { λ r. ⌜ (from ≤ r) × ((r ≤ count) × Unnamed (now (names .entry)) base (now (name .entry)) from r) ⌝ }
+{
+    let wanted = words::word_at(name, 0);
+    let mut i = from;
+    while i < count {
+        let first = words::word_at(names, base + 32 * i);
+        if first == wanted {
+            return i;
+        }
+        i += 1;
+    }
+    i
+}
+
 // The customers with a last name, in order, at the front of a list; how many.
 fn gather(names: &[u8], base: u64, count: u64, name: &[u8], list: &mut [u16]) -> u64
     requires { ⌜ (base + 32 * count ≤ length (now names)) × ((count < 2 ^ 16) × ((length (now name) ≡ 16) × (count ≤ length (now list)))) ⌝ }
     ensures { λ r. ⌜ (r ≤ count) × (take r (now (list .exit)) ≡ sorted (beforeFrom (now (names .entry)) base) (passing (namedFrom (now (names .entry)) base (now (name .entry))) count)) ⌝ }
 {
     let mut n = 0;
-    for i in 0..count {
+    let mut i = next_alike(names, base, count, name, 0);
+    while i < count {
         n = consider(names, base, count, name, list, n, i + 1);
+        i = next_alike(names, base, count, name, i + 1);
     }
     n
 }

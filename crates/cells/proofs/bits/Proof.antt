@@ -1,6 +1,6 @@
-use mathlib.Core.Path.{sym, ap, _∙_}
-use Rattle.model.specs.Numbers.{nat, cell}
-use Rattle.cells.proofs.Signed.{held}
+use mathlib.Core.Path.{sym, _∙_}
+use Rattle.model.specs.Numbers.{cell}
+use Rattle.cells.proofs.Signed.{held, bits-nat}
 use borrow.Author.Needs.{needs}
 use Rattle.cells.proofs.bits.Statement.{statement}
 use Rattle.cells.proofs.bits.Tie as tie
@@ -20,7 +20,7 @@ bits-of-requires c κs = search needs
 returns : tie.Need-returns
 unfolding cell
 returns c =
-    ap nat (sym (held (c .before .bits-of-arg .given))) ∙ c .bits-of .ensures
+    bits-nat _ (c .bits-of .result) (sym (held (c .before .bits-of-arg .given)) ∙ c .bits-of .ensures)
 
 pub bits-spec : {M : Type 1} → statement M
 bits-spec = tie.close (tie.spec mul-bits-of shared-slice-copy-out-bits-of bits-of-requires returns)

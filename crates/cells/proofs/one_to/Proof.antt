@@ -1,6 +1,6 @@
-use mathlib.Core.Path.{sym, ap, _∙_}
-use Rattle.model.specs.Numbers.{nat, cell}
-use Rattle.cells.proofs.Signed.{held, bits-tested}
+use mathlib.Core.Path.{sym, _∙_}
+use Rattle.model.specs.Numbers.{cell}
+use Rattle.cells.proofs.Signed.{held, bits-nat, bits-tested}
 use borrow.Author.Needs.{needs}
 use Rattle.cells.proofs.one_to.Statement.{statement}
 use Rattle.cells.proofs.one_to.Tie as tie
@@ -20,7 +20,7 @@ bits-of-requires c κs = search needs
 returns : tie.Need-returns
 unfolding cell
 returns c =
-    bits-tested _ (c .bits-of .result) _ (c .before .before .pre .1) (ap nat (sym (held (c .before .bits-of-arg .given))) ∙ c .bits-of .ensures)
+    bits-tested _ (c .bits-of .result) _ (c .before .before .pre .1) (bits-nat _ (c .bits-of .result) (sym (held (c .before .bits-of-arg .given)) ∙ c .bits-of .ensures))
 
 pub one-to-spec : {M : Type 1} → statement M
 one-to-spec =

@@ -1,6 +1,8 @@
 use Rattle.lookup.specs.Extremes.{least, most}
-use Rattle.lookup.proofs.Extremes.{Noting, noting-none, noting-step, noting-end}
-use Prim.Native.Nat.{_≤_, _-_}
+use Rattle.rows.proofs.Rewriting.{Rewriting, rewriting-none, rewriting-step, rewriting-end}
+use mathlib.Core.Path.{_≡_}
+use Prim.Native.Nat.{_≤_, _-_, _+_}
+use lib.ListN.{getD}
 use borrow.Author.Needs.{needs}
 use Rattle.lookup.proofs.note_name.Statement.{statement}
 use Rattle.lookup.proofs.note_name.Tie as tie
@@ -10,14 +12,15 @@ use Rattle.lookup.proofs.least.Reads as least-reads
 use Rattle.lookup.proofs.most.Reads as most-reads
 
 abbrev Inv-loop : tie.InvT-loop
-Inv-loop names p low₀ high₀ j₀ low high j = (j ≤ 32) × (Noting least names p low₀ low j × Noting most names p high₀ high j)
+Inv-loop names p low₀ high₀ j₀ low high j = (j ≤ 32)
+    × (Rewriting 32 (λ i x y. y ≡ least x (getD names (p + i) 0)) low₀ low j × Rewriting 32 (λ i x y. y ≡ most x (getD names (p + i) 0)) high₀ high j)
 
 abbrev μ-loop : tie.MeasureT-loop
 μ-loop names p low₀ high₀ j₀ low high j = 32 - j
 
 loop-holds : tie.Need-loop-holds Inv-loop μ-loop
 loop-holds c =
-    (search needs, (noting-none (c .before .pre .1 .0), noting-none (c .before .pre .1 .1)))
+    (search needs, (rewriting-none (c .before .pre .1 .0), rewriting-none (c .before .pre .1 .1)))
 
 add-x : tie.Need-add-x Inv-loop μ-loop
 add-x c = search needs
@@ -51,11 +54,11 @@ loop-less c = search needs
 
 loop-again : tie.Need-loop-again Inv-loop μ-loop
 loop-again c =
-    (search needs, (noting-step (c .before .before .before .before .before .loop-test .taken) (c .before .before .before .before .before .before .loop .inv .1 .0) (c .before .before .least .ensures), noting-step (c .before .before .before .before .before .loop-test .taken) (c .before .before .before .before .before .before .loop .inv .1 .1) (c .most .ensures)))
+    (search needs, (rewriting-step (c .before .before .before .before .before .loop-test .taken) (c .before .before .before .before .before .before .loop .inv .1 .0) (c .before .before .least .ensures), rewriting-step (c .before .before .before .before .before .loop-test .taken) (c .before .before .before .before .before .before .loop .inv .1 .1) (c .most .ensures)))
 
 returns : tie.Need-returns Inv-loop μ-loop
 returns c =
-    (noting-end (c .loop-test .left) (c .before .loop .inv .1 .0), noting-end (c .loop-test .left) (c .before .loop .inv .1 .1))
+    (rewriting-end (c .loop-test .left) (c .before .loop .inv .1 .0), rewriting-end (c .loop-test .left) (c .before .loop .inv .1 .1))
 
 pub note-name-spec : {M : Type 1} → statement M
 note-name-spec =
