@@ -132,7 +132,7 @@ pub fn book(size: &Size, fewer: usize) -> Measured {
         "the books differ at the end"
     );
     let pass = pass(&mut field, &mut asker, 64 / fewer);
-    let search = search(&mut field, &mut asker, 64 / fewer);
+    let search = search(&mut field, &mut asker, 256 / fewer);
     Measured { rows, pass, search }
 }
 

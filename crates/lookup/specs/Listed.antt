@@ -14,9 +14,12 @@ use Rattle.lookup.specs.declared.Places.{Places}
 unfoldable pub namedFrom : List ℕ → ℕ → List ℕ → ℕ → Bool
 namedFrom names base name c = isEqual (compareNames (nameAt names (base + 32 * (c - 1))) name)
 
--- none of the customers behind i, up to r, has the last name
-abbrev pub Unnamed : List ℕ → ℕ → List ℕ → ℕ → ℕ → Type 0
-Unnamed names base name i r = (c : ℕ) → i < c → c ≤ r → namedFrom names base name c ≡ false
+-- of the customers behind i, those up to r have other last names, and the one after them, where there is one, has this
+pub record Next (names : List ℕ) (base count : ℕ) (name : List ℕ) (i r : ℕ) : Type 0 where
+  pub from : i ≤ r
+  pub to : r ≤ count
+  pub others : (c : ℕ) → i < c → c ≤ r → namedFrom names base name c ≡ false
+  pub own : r < count → namedFrom names base name (r + 1) ≡ true
 
 unfoldable pub beforeFrom : List ℕ → ℕ → ℕ → ℕ → Bool
 beforeFrom names base a c = smallerOr (compareNames (nameAt names (base + 32 * (a - 1) + 16)) (nameAt names (base + 32 * (c - 1) + 16))) (ltb a c)

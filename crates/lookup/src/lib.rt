@@ -1,5 +1,5 @@
 ghost use mathlib.Core.Path.{_≡_};
-ghost use mathlib.Core.Bool.{true, cond};
+ghost use mathlib.Core.Bool.{true};
 ghost use mathlib.Core.List.{[], _∷_, _++_};
 ghost use Prim.Native.Nat.{_+_, _-_, _*_, _≤_, _<_, _^_};
 ghost use lib.ListN.{length, take, drop, replicate};
@@ -10,7 +10,7 @@ ghost use Rattle.model.specs.Used.{customersUsed, namesUsed};
 ghost use Rattle.model.specs.Claim.{R};
 ghost use Rattle.model.proofs.Fields.{Dimensioned};
 ghost use Rattle.rows.specs.Book.{Booked};
-ghost use Rattle.lookup.specs.Listed.{namedFrom, Unnamed, beforeFrom, nameOkFrom, insertPlace, Listed, Holds};
+ghost use Rattle.lookup.specs.Listed.{namedFrom, Next, beforeFrom, nameOkFrom, insertPlace, Listed, Holds};
 ghost use Rattle.lookup.specs.Extremes.{least, most, Noted, extremesOk};
 use model::Comparison;
 use model::Dims;
@@ -107,38 +107,14 @@ fn insert_in(names: &[u8], base: u64, count: u64, list: &mut [u16], n: u64, c: u
     put_in(list, n, p, c as u16);
 }
 
-// Customer c inserted, where the last name is its own; the new count.
-fn consider(
-    names: &[u8],
-    base: u64,
-    count: u64,
-    name: &[u8],
-    list: &mut [u16],
-    n: u64,
-    c: u64,
-) -> u64
-    requires { ⌜ (length (now name) ≡ 16) × ((n < length (now list)) × Listed (now names) base count (now list) n c) ⌝ }
-    ensures { λ r. ⌜ (r ≤ n + 1)
-        × (take r (now (list .exit))
-        ≡ cond (namedFrom (now (names .entry)) base (now (name .entry)) c) (insert (beforeFrom (now (names .entry)) base) c (take n (now (list .entry)))) (take n (now (list .entry)))) ⌝ }
-{
-    if is_named(names, base, name, c) {
-        insert_in(names, base, count, list, n, c);
-        return n + 1;
-    }
-    n
-}
-
-// How many customers to pass by, of which the first `from` are behind us: up to the next whose last name starts with the wanted eight bytes.
-fn next_alike(names: &[u8], base: u64, count: u64, name: &[u8], from: u64) -> u64
+// How many customers to pass by, of which the first `from` are behind us: up to the next that has the last name, or all.
+fn next_named(names: &[u8], base: u64, count: u64, name: &[u8], from: u64) -> u64
     requires { ⌜ (base + 32 * count ≤ length (now names)) × ((length (now name) ≡ 16) × (from ≤ count)) ⌝ }
-    ensures { λ r. ⌜ (from ≤ r) × ((r ≤ count) × Unnamed (now (names .entry)) base (now (name .entry)) from r) ⌝ }
+    ensures { λ r. ⌜ Next (now (names .entry)) base count (now (name .entry)) from r ⌝ }
 {
-    let wanted = words::word_at(name, 0);
     let mut i = from;
     while i < count {
-        let first = words::word_at(names, base + 32 * i);
-        if first == wanted {
+        if is_named(names, base, name, i + 1) {
             return i;
         }
         i += 1;
@@ -152,10 +128,11 @@ fn gather(names: &[u8], base: u64, count: u64, name: &[u8], list: &mut [u16]) ->
     ensures { λ r. ⌜ (r ≤ count) × (take r (now (list .exit)) ≡ sorted (beforeFrom (now (names .entry)) base) (passing (namedFrom (now (names .entry)) base (now (name .entry))) count)) ⌝ }
 {
     let mut n = 0;
-    let mut i = next_alike(names, base, count, name, 0);
+    let mut i = next_named(names, base, count, name, 0);
     while i < count {
-        n = consider(names, base, count, name, list, n, i + 1);
-        i = next_alike(names, base, count, name, i + 1);
+        insert_in(names, base, count, list, n, i + 1);
+        n += 1;
+        i = next_named(names, base, count, name, i + 1);
     }
     n
 }

@@ -27,7 +27,7 @@ fn word(s: &[u8]) -> u64
 }
 
 // The eight bytes from p on as one number.
-pub fn word_at(a: &[u8], p: u64) -> u64
+fn word_at(a: &[u8], p: u64) -> u64
     requires { ⌜ p + 8 ≤ length (now a) ⌝ }
     ensures { λ r. ⌜ r ≡ wordOf (take 8 (drop p (now (a .entry)))) ⌝ }
 {

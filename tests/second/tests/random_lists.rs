@@ -80,7 +80,7 @@ fn every_answer_is_reached() {
         ("L", &[0, 2, 4, 5, 8, 9]),
         ("READ", &[0, 1]),
         ("WRITE", &[0, 1]),
-        ("=", &[0, 10]),
+        ("=", &[0, 9, 10]),
     ];
     for (word, numbers) in answers {
         for &number in numbers {
@@ -146,7 +146,7 @@ fn every_kind_is_reached() {
 }
 
 /// Searches by name that a comparison by words of eight bytes could get wrong: by the wanted name, where another differs in one byte or one word
-/// alone, and by the first names of namesakes.
+/// alone, and by the first names of namesakes; and that a look at many rows at once could.
 #[test]
 fn every_kind_of_search_is_reached() {
     let counts = stats::count(11, 2_000);
@@ -164,6 +164,9 @@ fn every_kind_of_search_is_reached() {
         check(number, "last names differ in byte 16 alone", 25);
     }
     check(10, "a wanted byte from 128 on", 100);
+    check(0, "sixteen rows or more in range, and their ors", 100);
+    check(0, "sixteen rows or more in range, but not their ors", 100);
+    check(9, "sixteen rows or more out of range", 50);
     for (kind, least) in [
         ("equal", 500),
         ("differ in byte 8 alone", 25),

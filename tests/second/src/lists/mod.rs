@@ -270,6 +270,7 @@ fn close_names(random: &mut Random) -> String {
         false => books::in_use(random, layout),
     };
     names::set(random, &mut book);
+    names::set_rows(random, &mut book);
     let mut text = lend(&book.lent);
     if new {
         text.push_str("OPEN\n");

@@ -2,8 +2,8 @@
 
 use super::books::Book;
 use super::random::Random;
-use crate::layout::NAMES_WIDTH;
-use crate::ranges::NAME_BYTES;
+use crate::layout::{customer, NAMES_WIDTH};
+use crate::ranges::{self, NAME_BYTES};
 use crate::request::{OrderStatus, Payment, Request, Who};
 use std::ops::Range;
 
@@ -43,6 +43,37 @@ pub fn set(random: &mut Random, book: &mut Book) {
         let names = &mut book.lent.names[range];
         let place = random.below(names.len());
         names[place] = *random.pick(&[31, 127, 128, 255]);
+    }
+}
+
+/// The ranges of a customer's row, by column.
+const COLUMNS: [ranges::Range; customer::WIDTH] = [
+    ranges::CREDIT,
+    ranges::RATE,
+    ranges::BALANCE,
+    ranges::MONEY_TO_DATE,
+    ranges::COUNT,
+    ranges::COUNT,
+];
+
+/// A discount of ones in binary: those up to it have an or in range.
+const LOW_DISCOUNT: i64 = 8_191;
+
+/// Gives the customers of the favoured district discounts whose or is in range, in half of the books; in some a number is at an end of its range or
+/// beyond it. A search judges all these rows, and may do so many at a time.
+pub fn set_rows(random: &mut Random, book: &mut Book) {
+    let at = book.focus;
+    let range = book.layout.customers_of(at.warehouse, at.district);
+    let rows = &mut book.lent.nums[range];
+    if random.percent(50) {
+        for row in rows.chunks_exact_mut(customer::WIDTH) {
+            row[customer::DISCOUNT] &= LOW_DISCOUNT;
+        }
+    }
+    if random.percent(25) {
+        let place = random.below(rows.len());
+        let (low, high) = COLUMNS[place % customer::WIDTH];
+        rows[place] = *random.pick(&[low, high, low - 1, high + 1, i64::MIN, i64::MAX]);
     }
 }
 

@@ -2,12 +2,13 @@
 
 use super::totals::HALF;
 use crate::checks;
-use crate::layout::{district, Layout, NAMES_WIDTH};
+use crate::layout::{customer, district, Layout, NAMES_WIDTH};
 use crate::new_order::{exact_total, rates, PARTS};
 use crate::ranges::NAME_BYTES;
 use crate::replay::command::{parse, Command};
 use crate::replay::{Engine, Lent, Replay, SecondEngine};
 use crate::request::{Line, NewOrder, Request, Who};
+use crate::rows;
 use crate::who::{self, Found};
 use crate::Outcome;
 use std::collections::{BTreeMap, BTreeSet};
@@ -193,17 +194,21 @@ fn behind(lent: &Lent, layout: &Layout, order: &NewOrder) -> String {
 }
 
 /// The kinds of a search by name that found a customer or nobody: how the wanted last name differs from those of other customers, and the first
-/// name of the customer found from those of its namesakes.
+/// name of the customer found from those of its namesakes. Where a search is refused by 9 too: what its customers' rows are like.
 fn searched(answer: &str, command: &str, lent: &Lent) -> BTreeSet<String> {
     let mut kinds = BTreeSet::new();
+    let Some(((w, d), name)) = wanted(command) else {
+        return kinds;
+    };
     let figures = answer.split(' ').skip(1).map_while(|f| f.parse().ok());
-    let found: usize = match figures.collect::<Vec<_>>()[..] {
+    let figures: Vec<usize> = figures.collect();
+    if let [0 | 9 | 10, ..] = figures[..] {
+        kinds.extend(rows_judged(lent, (w as usize, d as usize)));
+    }
+    let found = match figures[..] {
         [0, customer, ..] => customer,
         [10, ..] => 0,
         _ => return kinds,
-    };
-    let Some(((w, d), name)) = wanted(command) else {
-        return kinds;
     };
     if name.iter().any(|&byte| byte >= 128) {
         kinds.insert("a wanted byte from 128 on".into());
@@ -224,6 +229,27 @@ fn searched(answer: &str, command: &str, lent: &Lent) -> BTreeSet<String> {
         }
     }
     kinds
+}
+
+/// What the rows of a district of many customers are like: out of range, or in range and so are the ors of their columns, or not these.
+fn rows_judged(lent: &Lent, (w, d): (usize, usize)) -> Option<String> {
+    let layout = Layout::of(&lent.nums, &lent.names).expect("a book that was not refused by 2");
+    if layout.customers < 16 {
+        return None;
+    }
+    let numbers = &lent.nums[layout.customers_of(w, d)];
+    let or_of = |column: usize| {
+        let column = numbers.iter().skip(column).step_by(customer::WIDTH);
+        column.fold(0, |or, number| or | number)
+    };
+    let mut ors: [i64; customer::WIDTH] = std::array::from_fn(or_of);
+    ors[customer::BALANCE] = 0;
+    let kind = match rows::customers_in_range(numbers) {
+        false => "out of range",
+        true if rows::customer_in_range(&ors) => "in range, and their ors",
+        true => "in range, but not their ors",
+    };
+    Some(format!("sixteen rows or more {kind}"))
 }
 
 /// The customer's warehouse and district and the wanted last name of a Payment or an Order-Status by name.
