@@ -1,4 +1,5 @@
-//! Names close to each other, which a comparison by words of eight bytes could mistake, and last names to look for among them.
+//! Names close to each other, which a comparison by words of eight bytes could mistake, last names to look for among them, and customers' rows that a
+//! look at many at once could.
 
 use super::books::Book;
 use super::random::Random;
