@@ -7,7 +7,7 @@ use mathlib.Core.List.{List, [], _∷_}
 use Prim.Native.Nat.{ℕ, suc, _+_, _-_, _*_, _≤_, _<_, _^_}
 use lib.Dec.{ltb}
 use lib.ListN.{length, getD, take}
-use Rattle.model.specs.Names.{nameAt, nameOk, compareNames, isEqual, smallerOr}
+use Rattle.model.specs.Names.{nameAt, nameOk, compareNames, isEqual, smallerOr, sorted, passing}
 use Rattle.model.specs.Claim.{R}
 use Rattle.lookup.specs.declared.Places.{Places}
 
@@ -26,6 +26,10 @@ beforeFrom names base a c = smallerOr (compareNames (nameAt names (base + 32 * (
 
 unfoldable pub nameOkFrom : List ℕ → ℕ → ℕ → Bool
 nameOkFrom names base c = nameOk names (base + 32 * (c - 1))
+
+-- the first count customers of the district that have the last name, in order
+abbrev pub namesakesFrom : List ℕ → ℕ → List ℕ → ℕ → List ℕ
+namesakesFrom names base name count = sorted (beforeFrom names base) (passing (namedFrom names base name) count)
 
 -- where an insertion puts x, from 0
 abbrev pub insertPlace : (ℕ → ℕ → Bool) → ℕ → List ℕ → ℕ

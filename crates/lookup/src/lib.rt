@@ -5,12 +5,12 @@ ghost use Prim.Native.Nat.{_+_, _-_, _*_, _≤_, _<_, _^_};
 ghost use lib.ListN.{length, take, drop, replicate};
 ghost use Rattle.model.specs.Tests.{every, allTo};
 ghost use Rattle.model.specs.Layout.{nameBytes};
-ghost use Rattle.model.specs.Names.{padded, insert, sorted, passing, found, whoOf, whoTests};
+ghost use Rattle.model.specs.Names.{padded, insert, found, whoOf, whoTests};
 ghost use Rattle.model.specs.Used.{customersUsed, namesUsed};
 ghost use Rattle.model.specs.Claim.{R};
 ghost use Rattle.model.proofs.Fields.{Dimensioned};
 ghost use Rattle.rows.specs.Book.{Booked};
-ghost use Rattle.lookup.specs.Listed.{namedFrom, Next, beforeFrom, nameOkFrom, insertPlace, Listed, Holds};
+ghost use Rattle.lookup.specs.Listed.{namedFrom, Next, beforeFrom, namesakesFrom, nameOkFrom, insertPlace, Listed, Holds};
 ghost use Rattle.lookup.specs.Extremes.{least, most, Noted, extremesOk};
 use model::Comparison;
 use model::Dims;
@@ -125,7 +125,7 @@ fn next_named(names: &[u8], base: u64, count: u64, name: &[u8], from: u64) -> u6
 // The customers with a last name, in order, at the front of a list; how many.
 fn gather(names: &[u8], base: u64, count: u64, name: &[u8], list: &mut [u16]) -> u64
     requires { ⌜ (base + 32 * count ≤ length (now names)) × ((count < 2 ^ 16) × ((length (now name) ≡ 16) × (count ≤ length (now list)))) ⌝ }
-    ensures { λ r. ⌜ (r ≤ count) × (take r (now (list .exit)) ≡ sorted (beforeFrom (now (names .entry)) base) (passing (namedFrom (now (names .entry)) base (now (name .entry))) count)) ⌝ }
+    ensures { λ r. ⌜ (r ≤ count) × (take r (now (list .exit)) ≡ namesakesFrom (now (names .entry)) base (now (name .entry)) count) ⌝ }
 {
     let mut n = 0;
     let mut i = next_named(names, base, count, name, 0);

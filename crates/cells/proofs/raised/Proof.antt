@@ -1,7 +1,7 @@
 use mathlib.Core.Path.{sym, _∙_}
 use lib.ListN.{getD}
 use lib.IntN.{pos}
-use Rattle.cells.proofs.Signed.{held, raised-over}
+use Rattle.cells.proofs.Signed.{held, raised-is}
 use borrow.Author.Needs.{needs}
 use Rattle.cells.proofs.raised.Statement.{statement}
 use Rattle.cells.proofs.raised.Tie as tie
@@ -24,7 +24,7 @@ wrapping-add-u64-requires c κs = search needs
 
 returns : tie.Need-returns
 returns c =
-    raised-over (getD (c .before .before .before .args .b .now) (c .before .before .before .args .i) (pos 0)) (c .before .bits-of .result) _ (c .before .bits-of .ok) (c .before .before .before .pre .1) (sym (held (c .before .before .bits-of-arg .given)) ∙ c .before .bits-of .ensures) (c .wrapping-add-u64 .ensures)
+    raised-is (getD (c .before .before .before .args .b .now) (c .before .before .before .args .i) (pos 0)) (c .before .bits-of .result) _ (c .before .bits-of .ok) (c .before .before .before .pre .1) (sym (held (c .before .before .bits-of-arg .given)) ∙ c .before .bits-of .ensures) (c .wrapping-add-u64 .ensures)
 
 pub raised-spec : {M : Type 1} → statement M
 raised-spec =

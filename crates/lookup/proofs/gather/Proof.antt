@@ -3,8 +3,7 @@ use native.Mathlib.Omega.{arith}
 use Rattle.lookup.proofs.Bridge.{listed}
 use Rattle.lookup.proofs.Skipping.{passing-by}
 use Rattle.model.proofs.Ordering.{sorted-step}
-use Rattle.lookup.specs.Listed.{namedFrom, beforeFrom}
-use Rattle.model.specs.Names.{sorted, passing}
+use Rattle.lookup.specs.Listed.{namedFrom, namesakesFrom}
 use lib.ListN.{length, take}
 use Prim.Native.Nat.{_≤_, _<_, _-_, _+_}
 use mathlib.Core.Path.{_≡_, refl}
@@ -19,7 +18,7 @@ use Rattle.lookup.proofs.next_named.Reads as next-named-reads
 
 abbrev Inv-loop : tie.InvT-loop
 Inv-loop names base count name list₀ n₀ i₀ list n i = (i ≤ count)
-    × ((n ≤ i) × ((length list ≡ length list₀) × ((take n list ≡ sorted (beforeFrom names base) (passing (namedFrom names base name) i)) × (i < count → namedFrom names base name (i + 1) ≡ true))))
+    × ((n ≤ i) × ((length list ≡ length list₀) × ((take n list ≡ namesakesFrom names base name i) × (i < count → namedFrom names base name (i + 1) ≡ true))))
 
 abbrev μ-loop : tie.MeasureT-loop
 μ-loop names base count name list₀ n₀ i₀ list n i = count - i

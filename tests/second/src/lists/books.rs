@@ -2,7 +2,7 @@
 
 use super::last;
 use super::random::Random;
-use crate::layout::{order, order_line, Layout, HEAD, HISTORY_COUNT, NAMES_WIDTH};
+use crate::layout::{customer, order, order_line, Layout, HEAD, HISTORY_COUNT, NAMES_WIDTH};
 use crate::ranges::{self, Range};
 use crate::replay::Lent;
 
@@ -302,6 +302,16 @@ pub fn chaos(random: &mut Random) -> Lent {
     Lent { nums, names, last }
 }
 
+/// The ranges of a customer's row, by column.
+pub const CUSTOMER_COLUMNS: [Range; customer::WIDTH] = [
+    ranges::CREDIT,
+    ranges::RATE,
+    ranges::BALANCE,
+    ranges::MONEY_TO_DATE,
+    ranges::COUNT,
+    ranges::COUNT,
+];
+
 /// The kinds of rows that calls use.
 #[derive(Debug, Clone, Copy)]
 enum Kind {
@@ -321,10 +331,7 @@ impl Kind {
         match self {
             Kind::Warehouse => vec![ranges::RATE, money],
             Kind::District => vec![ranges::RATE, money, upto(layout.order_slots + 1)],
-            Kind::Customer => {
-                let (credit, balance) = (ranges::CREDIT, ranges::BALANCE);
-                vec![credit, ranges::RATE, balance, money, count, count]
-            }
+            Kind::Customer => CUSTOMER_COLUMNS.to_vec(),
             Kind::Item => vec![ranges::PRICE],
             Kind::Stock => vec![ranges::ON_HAND, ranges::LOTS_TO_DATE, count, count],
             Kind::Order => {

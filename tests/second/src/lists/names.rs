@@ -1,10 +1,10 @@
 //! Names close to each other, which a comparison by words of eight bytes could mistake, last names to look for among them, and customers' rows that a
 //! look at many at once could.
 
-use super::books::Book;
+use super::books::{Book, CUSTOMER_COLUMNS};
 use super::random::Random;
 use crate::layout::{customer, NAMES_WIDTH};
-use crate::ranges::{self, NAME_BYTES};
+use crate::ranges::NAME_BYTES;
 use crate::request::{OrderStatus, Payment, Request, Who};
 use std::ops::Range;
 
@@ -47,16 +47,6 @@ pub fn set(random: &mut Random, book: &mut Book) {
     }
 }
 
-/// The ranges of a customer's row, by column.
-const COLUMNS: [ranges::Range; customer::WIDTH] = [
-    ranges::CREDIT,
-    ranges::RATE,
-    ranges::BALANCE,
-    ranges::MONEY_TO_DATE,
-    ranges::COUNT,
-    ranges::COUNT,
-];
-
 /// A discount of ones in binary: those up to it have an or in range.
 const LOW_DISCOUNT: i64 = 8_191;
 
@@ -73,7 +63,7 @@ pub fn set_rows(random: &mut Random, book: &mut Book) {
     }
     if random.percent(25) {
         let place = random.below(rows.len());
-        let (low, high) = COLUMNS[place % customer::WIDTH];
+        let (low, high) = CUSTOMER_COLUMNS[place % customer::WIDTH];
         rows[place] = *random.pick(&[low, high, low - 1, high + 1, i64::MIN, i64::MAX]);
     }
 }
