@@ -1,32 +1,32 @@
 /* The order book for feed cooperatives: the proved library's calls, from C (C99 or newer) and C++ (C++11 or newer).
 
-   A book is two slices that the caller owns and lends to each call: numbers (int64_t) and name bytes. Beside them stands a third, the last
-   order of each customer (int64_t), all 0 with a new book: New-Order writes it, Order-Status reads it, no other call takes it.
-   include/book_layout.h says how long the slices are for given sizes, where each row starts, and what every number may hold. A call judges the
-   slices that it takes, whatever they hold. It is committed, carried out whole; or refused by a number, and then changes no number and no byte
-   of them.
+   A book is two slices that the caller owns and lends to each call: numbers (int64_t) and name bytes. Beside them stand two more. The last order
+   of each customer (int64_t), all 0 with a new book: New-Order writes it, Order-Status reads it, no other call takes it. The notes, a text of 500
+   bytes for each customer, all spaces with a new book: Payment writes it, no other call takes it. include/book_layout.h says how long the slices
+   are for given sizes, where each row starts, and what every number may hold. A call judges the slices that it takes, whatever they hold. It is
+   committed, carried out whole; or refused by a number, and then changes no number and no byte of them.
 
    Two layers. A `struct book` with a request struct goes to a small inline function, and a struct with named fields comes back:
 
        struct book_pay_answer paid = book_pay(&book, &request);
        if (paid.refusal != BOOK_COMMITTED) ...
 
-   Make the book by book_lent, then set its last orders by name; set a request to 0 by memset, then its fields by name: a later version may add
-   fields, and a caller written so still compiles. Beneath are the flat functions that the library exports; their parameters may change with
-   BOOK_VERSION.
+   Make the book by book_lent, then set its last orders and notes by name; set a request to 0 by memset, then its fields by name: a later version
+   may add fields, and a caller written so still compiles. Beneath are the flat functions that the library exports; their parameters may change
+   with BOOK_VERSION.
 
    Memory.
    - NULL goes with length 0, for every slice: an empty book is refused by 2, an order without lines by 8, an empty last name by 10, New-Order
-     and Order-Status without the last orders by 13. Everything else that is handed over by a pointer is not NULL; an array that a flat function
-     fills has the length that its type says.
-   - Slices that are only read may overlap. A slice or array that a call writes (numbers, last orders in New-Order, a buffer, what comes out)
-     must not overlap with anything else lent to that call.
+     and Order-Status without the last orders by 13, Payment without the notes by 14. Everything else that is handed over by a pointer is not
+     NULL; an array that a flat function fills has the length that its type says.
+   - Slices that are only read may overlap. A slice or array that a call writes (numbers, last orders in New-Order, notes in Payment, a buffer,
+     what comes out) must not overlap with anything else lent to that call.
    - The library keeps nothing between calls, has no global state, allocates nothing and writes no file.
-   - Threads: one writer a book, its last orders included. While book_order, book_pay or book_deliver runs on a book, no other call may run on
-     it; the calls that only read may run side by side. Different books do not know of each other.
-   - A crash inside a call (the process killed, the power gone) can leave a half-written book, or last orders that do not go with it, where their
-     memory outlives the process, as in a mapped file: the stores of a call are not one step of the machine. Keep a copy of all three slices, or
-     the list of requests, from before the call. */
+   - Threads: one writer a book, its last orders and notes included. While book_order, book_pay or book_deliver runs on a book, no other call
+     may run on it; the calls that only read may run side by side. Different books do not know of each other.
+   - A crash inside a call (the process killed, the power gone) can leave a half-written book, or last orders or notes that do not go with it,
+     where their memory outlives the process, as in a mapped file: the stores of a call are not one step of the machine. Keep a copy of all four
+     slices, or the list of requests, from before the call. */
 #ifndef BOOK_H
 #define BOOK_H
 
@@ -37,11 +37,11 @@
 
 /* The version of this header, and what book_version() of the library answers: it rises whenever a function, a struct or a refusal here changes.
    Where the shared library is loaded, refuse to start unless book_version() == BOOK_VERSION; its soname has the number as well. */
-#define BOOK_VERSION 2
+#define BOOK_VERSION 3
 
-/* What a call answers first: 0, or the first number of this list that fits, in the list's order but that New-Order looks at 13 before 11 and 12.
-   The detail is the place (from 1) of the first offending line of an order at 8 and 12, and 0 otherwise, also where the number of lines itself
-   offends. */
+/* What a call answers first: 0, or the first number of this list that fits, in the list's order but that New-Order looks at 13 before 11 and 12,
+   and Payment at 14 straight after 2. The detail is the place (from 1) of the first offending line of an order at 8 and 12, and 0 otherwise, also
+   where the number of lines itself offends. */
 enum book_refusal {
     BOOK_COMMITTED = 0,
     BOOK_NO_FORM = 1,      /* a text line has no form; in writing, the request has none or the buffer is shorter than its line */
@@ -56,11 +56,12 @@ enum book_refusal {
     BOOK_NOBODY = 10,      /* nobody in the district has the last name */
     BOOK_NO_ROOM = 11,     /* New-Order: no order slot is left in the district; Payment: no history slot is left */
     BOOK_NO_ITEM = 12,     /* a line's item is not 1 to I, or its price is 0 */
-    BOOK_BAD_LAST = 13     /* New-Order, Order-Status: the last orders' length is not 10 * W * C, a number of the call's district is not 0 to next
+    BOOK_BAD_LAST = 13,    /* New-Order, Order-Status: the last orders' length is not 10 * W * C, a number of the call's district is not 0 to next
                               order number - 1, or (Order-Status) the order to be shown holds a value out of range */
+    BOOK_BAD_NOTES = 14    /* Payment: the notes' length is not 5,000 * W * C; their bytes are not judged */
 };
 
-/* All that is lent: the numbers, the name bytes and the last orders, each with its length. */
+/* All that is lent: the numbers, the name bytes, the last orders and the notes, each with its length. */
 struct book {
     int64_t *nums;
     size_t nums_len;
@@ -68,6 +69,8 @@ struct book {
     size_t names_len;
     int64_t *last; /* by customer its largest order number, 0 for none; book_lent leaves it empty */
     size_t last_len;
+    uint8_t *notes; /* by customer a text of 500 bytes; book_lent leaves it empty */
+    size_t notes_len;
 };
 
 /* Who: a customer number, or a last name of 1 to 16 bytes, which is compared after filling it up with spaces. Among namesakes of a district,
@@ -228,10 +231,12 @@ void book_new_order(int64_t *nums, size_t nums_len, const uint8_t *names, size_t
                     uint64_t warehouse, uint64_t district, uint64_t customer, uint64_t date, const struct book_line *lines, size_t lines_len,
                     uint64_t out[4]);
 
-/* Payment. out: refusal, detail, customer; balance[0]: the balance afterwards. */
-void book_payment(int64_t *nums, size_t nums_len, const uint8_t *names, size_t names_len, uint64_t warehouse, uint64_t district,
-                  uint64_t custwarehouse, uint64_t custdistrict, bool named, uint64_t number, const uint8_t *name, size_t name_len,
-                  uint64_t date, uint64_t amount, uint64_t out[3], int64_t balance[1]);
+/* Payment; committed, where the customer's credit is 1 it puts a note at the left of the customer's text in notes. The note is six numbers:
+   customer, custdistrict, custwarehouse, district, warehouse, amount, in decimal, a space between two and a semicolon behind the last. The old
+   text moves right, and what passes its byte 500 is lost. out: refusal, detail, customer; balance[0]: the balance afterwards. */
+void book_payment(int64_t *nums, size_t nums_len, const uint8_t *names, size_t names_len, uint8_t *notes, size_t notes_len, uint64_t warehouse,
+                  uint64_t district, uint64_t custwarehouse, uint64_t custdistrict, bool named, uint64_t number, const uint8_t *name,
+                  size_t name_len, uint64_t date, uint64_t amount, uint64_t out[3], int64_t balance[1]);
 
 /* Delivery. out: refusal, detail, skip count, mark (bit d - 1 is district d skipped); orders[d - 1]: the order of district d, 0 where skipped. */
 void book_delivery(int64_t *nums, size_t nums_len, const uint8_t *names, size_t names_len, uint64_t warehouse, uint64_t carrier,
@@ -304,7 +309,7 @@ static inline uint64_t book_date(int64_t unix_time)
     return (uint64_t)unix_time + UINT64_C(2208988801);
 }
 
-/* A book of these two slices. The last orders, and whatever else a later version lends, are empty: set them by name. */
+/* A book of these two slices. The last orders, the notes, and whatever else a later version lends, are empty: set them by name. */
 static inline struct book book_lent(int64_t *nums, size_t nums_len, const uint8_t *names, size_t names_len)
 {
     struct book book;
@@ -344,8 +349,8 @@ static inline struct book_pay_answer book_pay(struct book *book, const struct bo
     uint64_t out[3];
     int64_t balance[1];
     struct book_pay_answer a;
-    book_payment(book->nums, book->nums_len, book->names, book->names_len, q->warehouse, q->district, q->custwarehouse, q->custdistrict,
-                 q->who.named, q->who.number, q->who.name, q->who.name_len, q->date, q->amount, out, balance);
+    book_payment(book->nums, book->nums_len, book->names, book->names_len, book->notes, book->notes_len, q->warehouse, q->district,
+                 q->custwarehouse, q->custdistrict, q->who.named, q->who.number, q->who.name, q->who.name_len, q->date, q->amount, out, balance);
     a.refusal = out[0];
     a.detail = out[1];
     a.customer = out[2];

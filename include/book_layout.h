@@ -4,11 +4,12 @@
    A book is numbers (int64_t) and name bytes. The numbers are, in this order: the head; the warehouses; the districts, 10 a warehouse; the
    customers, C a district; the items; the stocks, I a warehouse; the order slots, O a district; the history slots. Rows lie by warehouse, then
    district, then number, and everything is counted from 1: warehouse 1, district 1, customer 1, order 1. Beside the book lie the last orders
-   (int64_t): one number for each customer, in the order of the customer rows.
+   (int64_t), one number for each customer, and the notes, a text of 500 bytes for each, both in the order of the customer rows.
 
    To make a book: choose sizes that book_sizes_ok accepts, allocate book_numbers and book_name_bytes, call book_blank, then set what the depots
    know: taxes, discounts, credit, prices, stock on hand (each at its row and column) and the names (book_set_name). book_open of book.h then
-   accepts it. The last orders are book_last_numbers zeros, as calloc gives them. C99 or newer, C++11 or newer. */
+   accepts it. The last orders are book_last_numbers zeros, as calloc gives them; the notes are book_note_bytes spaces, set by memset. C99 or newer,
+   C++11 or newer. */
 #ifndef BOOK_LAYOUT_H
 #define BOOK_LAYOUT_H
 
@@ -122,6 +123,7 @@ enum book_column {
     BOOK_HISTORY_WIDTH
 };
 #define BOOK_NAME_WIDTH (2 * BOOK_NAME_BYTES) /* a customer's name bytes: last name, then first name, each filled up with spaces */
+#define BOOK_NOTE_WIDTH 500                   /* a customer's bytes of the notes */
 
 /* Whether the sizes are in their ranges. The functions below are for sizes that are, and for places from 1 to their size: but for book_set_name they
    check nothing (book_places of the library does). */
@@ -191,7 +193,14 @@ static inline size_t book_last_at(const struct book_sizes *s, uint64_t warehouse
     return (size_t)(book_districts_before(warehouse, district) * s->customers + (customer - 1));
 }
 
-/* How many numbers, and how many name bytes, a book has, and how many numbers its last orders are. */
+/* Where a customer's text starts in the notes: the notes of its payments with credit 1, the newest first, then what stood there before. It may
+   hold any bytes. */
+static inline size_t book_note_at(const struct book_sizes *s, uint64_t warehouse, uint64_t district, uint64_t customer)
+{
+    return (size_t)((book_districts_before(warehouse, district) * s->customers + (customer - 1)) * BOOK_NOTE_WIDTH);
+}
+
+/* How many numbers, and how many name bytes, a book has, how many numbers its last orders and how many bytes its notes are. */
 static inline size_t book_numbers(const struct book_sizes *s)
 {
     return book_history_at(s, s->histories + 1);
@@ -205,6 +214,11 @@ static inline size_t book_name_bytes(const struct book_sizes *s)
 static inline size_t book_last_numbers(const struct book_sizes *s)
 {
     return book_last_at(s, s->warehouses + 1, 1, 1);
+}
+
+static inline size_t book_note_bytes(const struct book_sizes *s)
+{
+    return book_note_at(s, s->warehouses + 1, 1, 1);
 }
 
 /* A new book's start: the head, every next order number 1, every other number 0, every name byte a space. nums has book_numbers, names has

@@ -1,9 +1,10 @@
 """The order book for feed cooperatives, from Python: the proved library over ctypes, nothing else.
 
 `bin/build library` of the repository makes the shared library that this module loads (or name one in BOOK_LIBRARY). x86-64 Linux only.
-A Book owns its numbers, its names and its last orders. Every call is committed and answers its figures, or raises Refused and has changed
-nothing. One call at a time runs on a Book, also from threads: it has a lock. To keep a book, write b.nums, b.names and b.last to a file; to have
-it back, make a Book of the same sizes and read them into it (file.readinto); it is not opened again, since opening is for a new book.
+A Book owns its numbers, its names, its last orders and its notes. Every call is committed and answers its figures, or raises Refused and has
+changed nothing. One call at a time runs on a Book, also from threads: it has a lock. To keep a book, write b.nums, b.names, b.last and b.notes to
+a file; to have it back, make a Book of the same sizes and read them into it (file.readinto); it is not opened again, since opening is for a new
+book.
 """
 
 import ctypes
@@ -12,7 +13,7 @@ import os
 import threading
 from typing import List, NamedTuple, Union
 
-VERSION = 2  # BOOK_VERSION of include/book.h
+VERSION = 3  # BOOK_VERSION of include/book.h
 
 _path = os.environ.get("BOOK_LIBRARY") or os.path.join(
     os.path.dirname(os.path.dirname(os.path.realpath(__file__))), "target", "shared", "libbook.so"
@@ -39,6 +40,7 @@ REFUSALS = {
     11: "no order slot, or no history slot, is left",
     12: "an item is not one of the book's, or its price is 0",
     13: "the last orders have a wrong length or, in the district, a number out of range, or the order to be shown is out of range",
+    14: "the notes have a wrong length",
 }
 
 
@@ -187,6 +189,7 @@ _STOCK = ("on_hand", "lots", "order_count", "remote_count")
 _ORDER = ("customer", "entry_date", "carrier", "line_count", "all_local", "waiting")
 _HISTORY = ("customer", "custdistrict", "custwarehouse", "district", "warehouse", "date", "amount")
 _NAME_BYTES = 32  # of a customer; the last orders have one number for as many
+_NOTE_BYTES = 500  # of a customer
 
 
 class _CLine(ctypes.Structure):
@@ -250,8 +253,9 @@ def _padded(part):
 class Book:
     """A new book: the next order numbers are 1, all else is 0 and the names are spaces. Set the rows and names, then open it.
 
-    nums, names and last are ctypes arrays, lent to the calls as they are. last has for each customer its largest order number, 0 for none:
-    new_order writes it, order_status reads it, the other calls do not take it.
+    nums, names, last and notes are ctypes arrays, lent to the calls as they are. last has for each customer its largest order number, 0 for none:
+    new_order writes it, order_status reads it, the other calls do not take it. notes has for each customer a text of 500 bytes, spaces at first:
+    payment puts a note at its left where the customer's credit is 1, the other calls do not take it.
     """
 
     def __init__(self, sizes):
@@ -259,9 +263,12 @@ class Book:
         numbers, name_bytes = _places(self.sizes)[:2]
         self.nums = (ctypes.c_int64 * numbers)(*self.sizes)
         self.names = (ctypes.c_uint8 * name_bytes)()
-        self.last = (ctypes.c_int64 * (name_bytes // _NAME_BYTES))()
+        customers = name_bytes // _NAME_BYTES
+        self.last = (ctypes.c_int64 * customers)()
+        self.notes = (ctypes.c_uint8 * (customers * _NOTE_BYTES))()
         self._lock = threading.Lock()
-        ctypes.memset(self.names, ord(" "), name_bytes)
+        ctypes.memset(self.names, ord(" "), len(self.names))
+        ctypes.memset(self.notes, ord(" "), len(self.notes))
         for warehouse in range(1, self.sizes.warehouses + 1):
             for district in range(1, 11):
                 self.district(warehouse, district).next_order = 1
@@ -297,9 +304,17 @@ class Book:
             raise ValueError(f"{last!r}, {first!r} is no name of a book")
         self.names[at : at + 32] = list(name)
 
+    def _customers_before(self, warehouse, district, customer):
+        return _places(self.sizes, warehouse, district, customer)[9] // _NAME_BYTES
+
     def last_order(self, warehouse, district, customer):
         """The largest of a customer's order numbers, 0 for none, as last has it."""
-        return self.last[_places(self.sizes, warehouse, district, customer)[9] // _NAME_BYTES]
+        return self.last[self._customers_before(warehouse, district, customer)]
+
+    def notes_of(self, warehouse, district, customer):
+        """The 500 bytes of a customer, as notes has them: its notes, the newest first."""
+        at = self._customers_before(warehouse, district, customer) * _NOTE_BYTES
+        return bytes(self.notes[at : at + _NOTE_BYTES])
 
     # The calls
 
@@ -319,7 +334,8 @@ class Book:
     def payment(self, warehouse, district, custwarehouse, custdistrict, who, date, amount):
         places = _numbers(warehouse=warehouse, district=district, custwarehouse=custwarehouse, custdistrict=custdistrict)
         balance = (ctypes.c_int64 * 1)()
-        (customer,) = self._call(_lib.book_payment, places + _who(who) + _numbers(date=date, amount=amount), 1, balance)
+        paid = _slice(self.notes) + places + _who(who) + _numbers(date=date, amount=amount)
+        (customer,) = self._call(_lib.book_payment, paid, 1, balance)
         return Paid(customer, balance[0])
 
     def delivery(self, warehouse, carrier, date):

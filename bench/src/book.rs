@@ -85,6 +85,7 @@ pub fn make(size: &Size) -> Lent {
     Lent {
         last: last::scanned(&nums, &layout),
         names: names(random, size),
+        notes: vec![b' '; layout.note_bytes()],
         nums,
     }
 }

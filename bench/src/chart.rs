@@ -3,7 +3,7 @@
 use crate::measure::Row;
 use std::fmt::Write;
 
-const LEFT: f64 = 190.0;
+const LEFT: f64 = 205.0;
 const WIDTH: f64 = 560.0;
 const TOP: f64 = 92.0;
 const BAR: f64 = 13.0;

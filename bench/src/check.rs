@@ -50,9 +50,9 @@ impl Engines {
 }
 
 /// Random lists with faults, each from a small book just opened; gives how often each refusal was answered, committed calls at 0.
-pub fn random_lists() -> [usize; 14] {
+pub fn random_lists() -> [usize; 15] {
     let random = &mut Random::new(7);
-    let mut answered = [0; 14];
+    let mut answered = [0; 15];
     for list in 0..LISTS {
         let mut layout = if list % 3 == 0 {
             books::crowded(random)
@@ -62,7 +62,8 @@ pub fn random_lists() -> [usize; 14] {
         if list % 3 == 1 {
             layout.history_slots = 5;
         }
-        let book = books::fresh(random, layout);
+        let mut book = books::fresh(random, layout);
+        book.lent.notes = vec![b' '; layout.note_bytes()];
         let mut engines = Engines::on(&book.lent, &layout);
         let mut asker = Asker::new(&book, 50);
         for _ in 0..REQUESTS {

@@ -49,6 +49,7 @@ fn measured(most: usize) -> (&'static str, measure::Measured) {
     let mut books = compared(most);
     tables::passes(&books);
     tables::searches(&books);
+    tables::notes(&books);
     tables::missed(&books);
     books.pop().expect("a book")
 }
@@ -56,7 +57,7 @@ fn measured(most: usize) -> (&'static str, measure::Measured) {
 /// The same answers first.
 fn checked() {
     let answered = check::random_lists();
-    let refusals: Vec<String> = (1..14)
+    let refusals: Vec<String> = (1..15)
         .filter(|&n| answered[n] > 0)
         .map(|n| format!("{n}: {}", answered[n]))
         .collect();
@@ -67,9 +68,9 @@ fn checked() {
     );
 }
 
-/// C 3,000, I 100,000, O 3,000, H 100,000.
+/// C 3,000, I 100,000, O 3,000, H 100,000, with room for every payment that is timed.
 fn sized(warehouses: usize, orders: usize) -> Size {
-    let histories = 100_000 * orders / 3_000;
+    let histories = 75_000 * orders / 3_000;
     Size {
         warehouses,
         customers: 3_000,
@@ -111,7 +112,7 @@ fn grown() {
         order_slots: 10_000 / parts,
         history_slots: 1_000_000 / parts,
         orders: 9_000 / parts,
-        histories: 900_000 / parts,
+        histories: 850_000 / parts,
     };
     let sizes = [10, 3, 1].map(|parts| measure::book(&largest(parts), 2));
     tables::growth(&["A tenth", "A third", "The whole"], &sizes);

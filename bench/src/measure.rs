@@ -7,7 +7,7 @@ use crate::contender::{Contender, InBook};
 use crate::requests::{Asker, Call, Timed, CALLS};
 use crate::sums;
 use proved::ProvedEngine;
-use second::layout::Layout;
+use second::layout::{Layout, HISTORY_COUNT};
 use second::lists::random::Random;
 use second::replay::{Engine, Lent, SecondEngine};
 use second::{OrderStatus, Request, Who};
@@ -43,6 +43,8 @@ pub struct Measured {
     pub pass: Step,
     /// The search for a last name: proved, second engine, plain sum.
     pub search: Step,
+    /// The note of a payment with credit 1: proved, second engine.
+    pub note: Step,
 }
 
 const CONTENDERS: usize = 4;
@@ -114,10 +116,10 @@ impl Field {
     }
 }
 
-/// One row for each call, the pass and the search; each has its rounds divided by `fewer`.
+/// One row for each call, the pass, the search and the note; each has its rounds divided by `fewer`.
 pub fn book(size: &Size, fewer: usize) -> Measured {
     let mut field = Field::on(book::make(size), size.layout());
-    let mut asker = Asker::new(size, 2);
+    let mut asker = Asker::new(size, &field.summed.lent, 2);
     for request in asker.batch(Call::Mix, 200) {
         field.engines.agree(&request);
         field.summed.answer(&request);
@@ -133,7 +135,13 @@ pub fn book(size: &Size, fewer: usize) -> Measured {
     );
     let pass = pass(&mut field, &mut asker, 64 / fewer);
     let search = search(&mut field, &mut asker, 256 / fewer);
-    Measured { rows, pass, search }
+    let note = note(&mut field, &mut asker, 64 / fewer);
+    Measured {
+        rows,
+        pass,
+        search,
+        note,
+    }
 }
 
 /// A step's contenders in turn, another one first each time, the proved library being number 0.
@@ -188,6 +196,19 @@ fn search(field: &mut Field, asker: &mut Asker, rounds: usize) -> Step {
             1 => own_search(second, requests),
             _ => looked_at(requests, |r| sums::last_names(black_box(lent), layout, r)),
         }
+    })
+}
+
+/// The note of a payment with credit 1, on as many payments of either credit.
+fn note(field: &mut Field, asker: &mut Asker, rounds: usize) -> Step {
+    let credits = [Call::PaymentGoodCredit, Call::PaymentBadCredit];
+    let batches: Vec<_> = (0..rounds)
+        .map(|_| credits.map(|call| asker.batch(call, 40)))
+        .collect();
+    let Engines { proved, second, .. } = &mut field.engines;
+    step(rounds, 2, |round, which| match which {
+        0 => own_note(proved, &batches[round]),
+        _ => own_note(second, &batches[round]),
     })
 }
 
@@ -250,6 +271,16 @@ fn own_search<E: Engine>(book: &mut InBook<E>, requests: &[Request]) -> f64 {
     carried(book, requests) - carried(book, &nameless)
 }
 
+/// Microseconds of the note inside an engine's Payment: what payments with credit 1 take, less what those with credit 0 take. The turn before, which
+/// is not timed, has brought rows and texts near.
+fn own_note<E: Engine>(book: &mut InBook<E>, [good, bad]: &[Vec<Request>; 2]) -> f64 {
+    let before = book.lent.nums[HISTORY_COUNT];
+    let spent = carried(book, bad) - carried(book, good);
+    let committed = book.lent.nums[HISTORY_COUNT] - before;
+    assert_eq!(committed as usize, 2 * (good.len() + bad.len()));
+    spent
+}
+
 /// Microseconds a request of an engine, after a turn that is not timed.
 fn carried<E: Engine>(book: &mut InBook<E>, requests: &[Request]) -> f64 {
     black_box(book.batch(requests));
@@ -303,7 +334,7 @@ pub fn alone(name: &str, size: &Size) {
     let timed = timed.expect("the name of a row");
     let fresh = book::make(size);
     for _ in 0..10 {
-        let mut asker = Asker::new(size, 2);
+        let mut asker = Asker::new(size, &fresh, 2);
         let mut proved = InBook {
             engine: ProvedEngine,
             lent: fresh.clone(),

@@ -1,7 +1,9 @@
 //! The requests that are timed, made as TPC-C 2.4 to 2.8 and 5.2.3 make them.
 
 use crate::book::{self, Size};
+use second::layout::customer;
 use second::lists::random::Random;
+use second::replay::Lent;
 use second::{Delivery, Line, NewOrder, OrderStatus, Payment, Request, StockLevel, Who};
 
 const DATE: u64 = 3_900_000_001;
@@ -11,6 +13,10 @@ const DATE: u64 = 3_900_000_001;
 pub enum Call {
     NewOrder,
     PaymentByNumber,
+    /// By number, of a customer whose credit is 0.
+    PaymentGoodCredit,
+    /// By number, of one whose credit is 1.
+    PaymentBadCredit,
     PaymentByName,
     Delivery,
     StatusByNumber,
@@ -37,9 +43,21 @@ const fn timed(call: Call, name: &'static str, batch: usize, rounds: usize) -> T
 }
 
 /// Every row. A batch is short, so that among its rounds some are undisturbed; New-Orders are as many as a nearly full book has room for.
-pub const CALLS: [Timed; 8] = [
+pub const CALLS: [Timed; 10] = [
     timed(Call::NewOrder, "New-Order", 45, 40),
     timed(Call::PaymentByNumber, "Payment by number", 150, 48),
+    timed(
+        Call::PaymentGoodCredit,
+        "Payment by number, credit 0",
+        60,
+        64,
+    ),
+    timed(
+        Call::PaymentBadCredit,
+        "Payment by number, credit 1",
+        60,
+        64,
+    ),
     timed(Call::PaymentByName, "Payment by name", 45, 32),
     timed(Call::Delivery, "Delivery", 2, 64),
     timed(Call::StatusByNumber, "Order-Status by number", 100, 64),
@@ -49,6 +67,13 @@ pub const CALLS: [Timed; 8] = [
 ];
 
 impl Call {
+    pub fn pays_by_number(self) -> bool {
+        matches!(
+            self,
+            Call::PaymentByNumber | Call::PaymentGoodCredit | Call::PaymentBadCredit
+        )
+    }
+
     pub fn writes(self) -> bool {
         !matches!(
             self,
@@ -62,14 +87,21 @@ pub struct Asker {
     random: Random,
     size: Size,
     terminal: usize,
+    /// Of each customer, by warehouse, district and number.
+    credits: Vec<i64>,
 }
 
 impl Asker {
-    pub fn new(size: &Size, seed: u64) -> Asker {
+    pub fn new(size: &Size, lent: &Lent, seed: u64) -> Asker {
+        let layout = size.layout();
+        let first = layout.customer(1, 1, 1).start;
+        let rows = &lent.nums[first..layout.price(1)];
+        let credits = rows.iter().step_by(customer::WIDTH).copied();
         Asker {
             random: Random::new(seed),
             size: *size,
             terminal: 0,
+            credits: credits.collect(),
         }
     }
 
@@ -117,7 +149,10 @@ impl Asker {
     fn request(&mut self, call: Call) -> Request {
         match call {
             Call::NewOrder | Call::Mix => Request::NewOrder(self.new_order()),
-            Call::PaymentByNumber | Call::PaymentByName => self.payment(call),
+            Call::PaymentByNumber
+            | Call::PaymentGoodCredit
+            | Call::PaymentBadCredit
+            | Call::PaymentByName => self.payment(call),
             Call::Delivery => self.delivery(),
             Call::StatusByNumber | Call::StatusByName => self.status(call),
             Call::StockLevel => self.stock_level(),
@@ -182,19 +217,35 @@ impl Asker {
         let (warehouse, district) = self.terminal();
         let customer_warehouse = self.warehouse_near(warehouse, 15);
         let away = customer_warehouse != warehouse;
+        let customer_district = if away {
+            self.random.between(1, 10) as u64
+        } else {
+            district
+        };
+        let drawn = self.who(call == Call::PaymentByName);
         Request::Payment(Payment {
             warehouse,
             district,
             customer_warehouse,
-            customer_district: if away {
-                self.random.between(1, 10) as u64
-            } else {
-                district
-            },
-            who: self.who(call == Call::PaymentByName),
+            customer_district,
+            who: self.with_credit(call, (customer_warehouse, customer_district), drawn),
             date: DATE,
             amount: self.random.between(100, 500_000) as u64,
         })
+    }
+
+    /// The customer drawn or, where the call is of one credit, the next of its district that has it, the first following the last.
+    fn with_credit(&self, call: Call, (w, d): (u64, u64), drawn: Who) -> Who {
+        let (number, credit) = match (drawn, call) {
+            (Who::Number(number), Call::PaymentGoodCredit) => (number, 0),
+            (Who::Number(number), Call::PaymentBadCredit) => (number, 1),
+            (drawn, _) => return drawn,
+        };
+        let customers = self.size.customers as u64;
+        let before = ((w - 1) * 10 + d - 1) * customers;
+        let mut from_drawn = (0..customers).map(|step| (number - 1 + step) % customers);
+        let found = from_drawn.find(|place| self.credits[(before + place) as usize] == credit);
+        Who::Number(found.expect("a customer of this credit") + 1)
     }
 
     fn delivery(&mut self) -> Request {

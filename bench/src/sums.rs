@@ -9,7 +9,7 @@ use second::{Request, Who};
 
 /// A call that goes over more numbers in a larger book.
 pub fn scans(call: Call) -> bool {
-    !matches!(call, Call::PaymentByNumber | Call::Mix)
+    !call.pays_by_number() && call != Call::Mix
 }
 
 /// The sum over what a request scans. Of a New-Order that is its district's last orders alone.

@@ -56,6 +56,15 @@ pub fn searches(books: &[(&str, Measured)]) {
     steps(books, |book| &book.search);
 }
 
+/// The note of a payment with credit 1 on each book.
+pub fn notes(books: &[(&str, Measured)]) {
+    println!("\n### The note of a payment with credit 1\n");
+    println!("A Payment by number with credit 1 less one with credit 0, both carried out once before they are timed, so that rows and texts are near; in the rows above they have to be fetched, the text's 500 bytes too.\n");
+    println!("| Book | Proved, µs | Second engine, µs | Proved ÷ second |");
+    println!("|---|--:|--:|--:|");
+    steps(books, |book| &book.note);
+}
+
 /// The lines of a step's table, one a book.
 fn steps(books: &[(&str, Measured)], pick: impl Fn(&Measured) -> &Step) {
     for (title, book) in books {
@@ -97,13 +106,21 @@ fn line(call: &str, who: &str, sizes: &[Measured], pick: impl Fn(&[Row]) -> Opti
     }
 }
 
-/// The rows that miss what was set out to reach, over all books.
+/// What a note may take, in microseconds.
+const LONGEST_NOTE: f64 = 0.060;
+
+/// What misses what was set out to reach, over all books.
 pub fn missed(books: &[(&str, Measured)]) {
-    println!("\n### What misses the mark\n\nSlower than the second engine, or under half the speed of the plain sum (Payment by name, Delivery, Order-Status, Stock-Level):\n");
+    println!("\n### What misses the mark\n\nSlower than the second engine (with credit 1, 1.1 times its time), or under half the speed of the plain sum (Payment by name, Delivery, Order-Status, Stock-Level), or a note of more than {:.0} ns:\n", 1_000.0 * LONGEST_NOTE);
     let mut any = false;
     for (title, book) in books {
         for row in &book.rows {
             any |= miss(title, row);
+        }
+        let note = book.note.times[0];
+        if note > LONGEST_NOTE {
+            println!("- {title}, the note: {:.0} ns.", 1_000.0 * note);
+            any = true;
         }
     }
     if !any {
@@ -114,11 +131,15 @@ pub fn missed(books: &[(&str, Measured)]) {
 fn miss(title: &str, row: &Row) -> bool {
     use crate::requests::Call;
     let to_second = row.to_second;
+    let most = match row.call {
+        Call::PaymentBadCredit => 1.1,
+        _ => 1.0,
+    };
     let to_sum = row
         .to_sum
         .filter(|_| row.call != Call::NewOrder)
         .unwrap_or_default();
-    if to_second > 1.0 {
+    if to_second > most {
         println!(
             "- {title}, {}: {to_second:.2} times the second engine's time.",
             row.name
@@ -130,7 +151,7 @@ fn miss(title: &str, row: &Row) -> bool {
             row.name
         );
     }
-    to_second > 1.0 || to_sum > 2.0
+    to_second > most || to_sum > 2.0
 }
 
 /// Processor, cores, memory, and the versions of what was built with.

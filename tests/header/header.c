@@ -1,6 +1,6 @@
 /* The headers tried as a caller would: the layout against the proved `layout`, the ranges against opening and the calls, the columns against what the
-   calls write, the last orders by what is refused and written, the calls on a struct book against the flat functions, NULL with length 0. Compiles
-   as C99 and as C++11. */
+   calls write, the last orders and the notes by what is refused and written, the calls on a struct book against the flat functions, NULL with length
+   0. Compiles as C99 and as C++11. */
 #include <stdio.h>
 #include <stdlib.h>
 #include "book.h"
@@ -71,6 +71,7 @@ static void layout(void)
     see(book_history_at(&s, h) == out[10], "history row");
     see(book_name_at(&s, w, d, c) == out[11], "name");
     see(book_last_numbers(&s) * BOOK_NAME_WIDTH == out[3] && book_last_at(&s, w, d, c) * BOOK_NAME_WIDTH == out[11], "last orders lie as names do");
+    see(book_note_bytes(&s) == book_last_numbers(&s) * BOOK_NOTE_WIDTH && book_note_at(&s, w, d, c) == book_last_at(&s, w, d, c) * BOOK_NOTE_WIDTH, "notes lie so too");
 }
 
 /* ---- A small book: W 2, C 3, I 4, O 5, H 6; everything set ---- */
@@ -79,11 +80,13 @@ static const struct book_sizes small = {2, 3, 4, 5, 6};
 static int64_t nums[8608], saved[8608];
 static uint8_t names[2 * 10 * 3 * BOOK_NAME_WIDTH];
 static int64_t last[2 * 10 * 3], saved_last[2 * 10 * 3];
+static uint8_t notes[2 * 10 * 3 * BOOK_NOTE_WIDTH], saved_notes[2 * 10 * 3 * BOOK_NOTE_WIDTH];
 
 static struct book lent(void)
 {
     struct book book = book_lent(nums, book_numbers(&small), names, book_name_bytes(&small));
     book.last = last, book.last_len = book_last_numbers(&small);
+    book.notes = notes, book.notes_len = book_note_bytes(&small);
     return book;
 }
 
@@ -91,6 +94,7 @@ static struct book fresh(void)
 {
     uint64_t w, d, c, i;
     memset(last, 0, sizeof last);
+    memset(notes, ' ', sizeof notes);
     book_blank(&small, nums, names);
     for (w = 1; w <= small.warehouses; w++) {
         nums[book_warehouse_at(&small, w) + BOOK_WAREHOUSE_TAX] = 1000;
@@ -257,7 +261,10 @@ static void story(void)
             at(row, BOOK_HISTORY_DISTRICT) == 5 && at(row, BOOK_HISTORY_WAREHOUSE) == 2 && at(row, BOOK_HISTORY_DATE) == 300 &&
             at(row, BOOK_HISTORY_AMOUNT) == 700 && nums[BOOK_HEAD_HISTORY_COUNT] == 1,
         "history");
+    see(notes[book_note_at(s, 1, 4, 3)] == ' ', "no note with good credit");
+    nums[book_customer_at(s, 1, 4, 3) + BOOK_CUSTOMER_CREDIT] = 1;
     see(book_pay(&book, &pay).balance == 800, "a second payment");
+    see(memcmp(notes + book_note_at(s, 1, 4, 3), "3 4 1 5 2 700; ", 15) == 0, "its note");
     row = book_customer_at(s, 1, 4, 3);
     see(at(row, BOOK_CUSTOMER_BALANCE) == 800 && at(row, BOOK_CUSTOMER_YTD_PAYMENT) == 1400 && at(row, BOOK_CUSTOMER_PAYMENT_COUNT) == 2 &&
             at(row, BOOK_CUSTOMER_DELIVERY_COUNT) == 1,
@@ -447,6 +454,83 @@ static void last_range(void)
     }
 }
 
+/* ---- The notes ---- */
+
+/* A customer whose credit is set so pays at warehouse 2, district 5. */
+static struct book_pay_answer pays_with(struct book *book, uint64_t w, uint64_t d, uint64_t c, int64_t credit)
+{
+    struct book_pay_request q;
+    memset(&q, 0, sizeof q);
+    nums[book_customer_at(&small, w, d, c) + BOOK_CUSTOMER_CREDIT] = credit;
+    q.warehouse = 2, q.district = 5, q.custwarehouse = w, q.custdistrict = d, q.who = book_by_number(c), q.date = 300, q.amount = 700;
+    return book_pay(book, &q);
+}
+
+/* The length that Payment accepts is book_note_bytes, with either credit; the other calls take any. */
+static void notes_length(void)
+{
+    static uint8_t longer[sizeof notes + 1], saved_longer[sizeof notes + 1];
+    size_t right = book_note_bytes(&small), lengths[6] = {right, right - 1, right + 1, right - BOOK_NOTE_WIDTH, right / BOOK_DISTRICTS, 0};
+    memset(saved_longer, 'x', sizeof longer);
+    for (int k = 0; k < 6; k++) {
+        struct book book = fresh();
+        uint64_t refusal = k == 0 ? BOOK_COMMITTED : BOOK_BAD_NOTES;
+        memset(longer, 'x', sizeof longer);
+        book.notes = lengths[k] == 0 ? NULL : longer, book.notes_len = lengths[k];
+        see(book_open(&book).refusal == BOOK_COMMITTED, "opening does not take the notes");
+        see(pays_with(&book, 1, 4, 3, 0).refusal == refusal && memcmp(longer, saved_longer, sizeof longer) == 0, "the notes' length with good credit");
+        see(pays_with(&book, 1, 4, 2, 1).refusal == refusal && pays_with(&book, 1, 4, 2, 1).detail == 0, "the notes' length with bad credit");
+        see((memcmp(longer, saved_longer, sizeof longer) == 0) == (k != 0), "a refused payment leaves the notes");
+        see(orders(&book) == BOOK_COMMITTED && delivers(&book) == BOOK_COMMITTED && asks_status(&book) == BOOK_COMMITTED && asks_level(&book) == BOOK_COMMITTED,
+            "calls that do not take the notes");
+    }
+    {
+        struct book book = book_lent(nums, book_numbers(&small), names, book_name_bytes(&small));
+        fresh();
+        see(book.notes == NULL && book.notes_len == 0 && pays(&book) == BOOK_BAD_NOTES, "book_lent lends none");
+    }
+}
+
+/* Committed, a payment with bad credit puts its note at the customer's place, and nothing else; one with good credit puts none. */
+static void notes_places(void)
+{
+    struct book book = fresh();
+    uint64_t w, d, c;
+    for (w = 1; w <= small.warehouses; w++)
+        for (d = 1; d <= BOOK_DISTRICTS; d++)
+            for (c = 1; c <= small.customers; c++) {
+                char note[64];
+                int length = snprintf(note, sizeof note, "%d %d %d 5 2 700;", (int)c, (int)d, (int)w);
+                struct book_pay_answer a;
+                memcpy(saved_notes, notes, sizeof notes);
+                memcpy(saved_notes + book_note_at(&small, w, d, c), note, (size_t)length);
+                nums[BOOK_HEAD_HISTORY_COUNT] = 0;
+                a = pays_with(&book, w, d, c, 1);
+                see(a.refusal == BOOK_COMMITTED && a.customer == c && memcmp(saved_notes, notes, sizeof notes) == 0, "the place of a customer's note");
+                a = pays_with(&book, w, d, c, 0);
+                see(a.refusal == BOOK_COMMITTED && memcmp(saved_notes, notes, sizeof notes) == 0, "no note with good credit");
+            }
+}
+
+/* Texts of any bytes: one moves right by the note's length and loses its end, the others stay; a refused payment leaves all. */
+static void notes_moved(void)
+{
+    struct book book = fresh();
+    const char *note = "2 4 1 5 2 700;";
+    size_t at = book_note_at(&small, 1, 4, 2), length = strlen(note);
+    for (size_t k = 0; k < sizeof notes; k++) notes[k] = (uint8_t)below(256);
+    memcpy(saved_notes, notes, sizeof notes);
+    for (int k = 0; k < 3; k++) {
+        memmove(saved_notes + at + length, saved_notes + at, BOOK_NOTE_WIDTH - length);
+        memcpy(saved_notes + at, note, length);
+        see(pays_with(&book, 1, 4, 2, 1).refusal == BOOK_COMMITTED && memcmp(saved_notes, notes, sizeof notes) == 0, "a note at the left");
+    }
+    see(pays_with(&book, 1, 4, 2, BOOK_MAX_CREDIT + 1).refusal == BOOK_BAD_ROW, "no such credit");
+    nums[BOOK_HEAD_HISTORY_COUNT] = (int64_t)small.histories;
+    see(pays_with(&book, 1, 4, 2, 1).refusal == BOOK_NO_ROOM, "no room for a payment");
+    see(memcmp(saved_notes, notes, sizeof notes) == 0, "a refused payment puts no note");
+}
+
 /* ---- Refusals by name, and that they leave the book; NULL with length 0 ---- */
 
 static void refused(void)
@@ -479,6 +563,9 @@ static void refused(void)
     q = order_of(1, 1, 1, &one, 1), ask.who = book_by_number(1);
     see(book_order(&unsaid, &q).refusal == BOOK_BAD_LAST && book_status(&unsaid, &ask).refusal == BOOK_BAD_LAST, "NULL for the last orders");
     see(book_order(&unsaid, &no_item).refusal == BOOK_BAD_LAST && book_order(&unsaid, &no_item).detail == 0, "13 before 12");
+    see(book_pay(&unsaid, &pay).refusal == BOOK_BAD_NOTES && book_pay(&unsaid, &pay).detail == 0, "NULL for the notes, 14 before 10");
+    pay.warehouse = 3;
+    see(book_pay(&unsaid, &pay).refusal == BOOK_BAD_NOTES && book_pay(&book, &pay).refusal == BOOK_NO_WAREHOUSE, "14 before 4");
     see(memcmp(saved, nums, sizeof nums) == 0, "a refused call changes nothing");
     nums[book_customer_at(&small, 1, 1, 1) + BOOK_CUSTOMER_BALANCE] = BOOK_MAX_MONEY + 1;
     q = order_of(1, 1, 1, &one, 1);
@@ -543,10 +630,10 @@ int main(void)
 {
     see(book_version() == BOOK_VERSION, "version");
     see(book_numbers(&small) == sizeof nums / sizeof *nums && book_name_bytes(&small) == sizeof names &&
-            book_last_numbers(&small) == sizeof last / sizeof *last,
+            book_last_numbers(&small) == sizeof last / sizeof *last && book_note_bytes(&small) == sizeof notes,
         "the small book's room");
     for (int k = 0; k < 200000; k++) layout();
-    masters(), ranges(), story(), in_use(), last_length(), last_places(), last_range(), refused(), lines();
+    masters(), ranges(), story(), in_use(), last_length(), last_places(), last_range(), notes_length(), notes_places(), notes_moved(), refused(), lines();
     printf("header: %lu facts, %lu wrong\n", tried, wrong);
     return wrong != 0;
 }

@@ -17,7 +17,7 @@ use Rattle.model.specs.declared.ReadAnswer.{ReadAnswer}
 use Rattle.model.specs.Names.{Who}
 use Rattle.model.specs.Opening.{openingAnswer}
 use Rattle.model.specs.NewOrder.{newOrderAnswer, newOrderBook, newOrderLast}
-use Rattle.model.specs.Payment.{paymentAnswer, paymentBook}
+use Rattle.model.specs.Payment.{paymentAnswer, paymentBook, paymentNotes}
 use Rattle.model.specs.Delivery.{deliveryAnswer, deliveryOrders, deliveryBook}
 use Rattle.model.specs.OrderStatus.{statusAnswer, statusPart}
 use Rattle.model.specs.StockLevel.{stockLevelAnswer}
@@ -36,10 +36,11 @@ pub record NewOrderC (b : List ℤ) (names : List ℕ) (last : List ℤ) (q : Ne
   pub leaves : left ≡ newOrderBook b names last q lines
   pub notes : noted ≡ newOrderLast b names last q lines
 
-pub record PaymentC (b : List ℤ) (names : List ℕ) (q : Payment) (who : Who) (out : List ℕ) (balance left : List ℤ) : Type 0 where
-  pub answers : out ≡ oneOut (paymentAnswer b names q who)
-  pub balances : balance ≡ balanceOut (paymentAnswer b names q who)
-  pub leaves : left ≡ paymentBook b names q who
+pub record PaymentC (b : List ℤ) (names notes : List ℕ) (q : Payment) (who : Who) (out : List ℕ) (balance left : List ℤ) (written : List ℕ) : Type 0 where
+  pub answers : out ≡ oneOut (paymentAnswer b names notes q who)
+  pub balances : balance ≡ balanceOut (paymentAnswer b names notes q who)
+  pub leaves : left ≡ paymentBook b names notes q who
+  pub writes : written ≡ paymentNotes b names notes q who
 
 pub record DeliveryC (b : List ℤ) (names : List ℕ) (q : Delivery) (out orders : List ℕ) (left : List ℤ) : Type 0 where
   pub answers : out ≡ twoOut (deliveryAnswer b names q)

@@ -21,9 +21,9 @@ use model::StockLevel;
 // The version of these functions: BOOK_VERSION of include/book.h.
 #[no_mangle]
 pub extern "C" fn book_version() -> u64
-    ensures { λ r. ⌜ r ≡ 2 ⌝ }
+    ensures { λ r. ⌜ r ≡ 3 ⌝ }
 {
-    2
+    3
 }
 
 // Opening.
@@ -62,11 +62,12 @@ pub extern "C" fn book_new_order(
     flat::put_new_order(out, a)
 }
 
-// Payment by customer number, or by last name where named is true.
+// Payment by customer number, or by last name where named is true; notes has the text of each customer.
 #[no_mangle]
 pub extern "C" fn book_payment(
     nums: &mut [i64],
     names: &[u8],
+    notes: &mut [u8],
     warehouse: u64,
     district: u64,
     custwarehouse: u64,
@@ -79,8 +80,8 @@ pub extern "C" fn book_payment(
     out: &mut [u64; 3],
     balance: &mut [i64; 1],
 )
-    ensures { λ _. ⌜ PaymentC (now (nums .entry)) (now (names .entry)) (paymentOf warehouse district custwarehouse custdistrict date amount)
-        (whoOf (selectionOf named number) (now (name .entry))) (now (out .exit)) (now (balance .exit)) (now (nums .exit)) ⌝ }
+    ensures { λ _. ⌜ PaymentC (now (nums .entry)) (now (names .entry)) (now (notes .entry)) (paymentOf warehouse district custwarehouse custdistrict date amount)
+        (whoOf (selectionOf named number) (now (name .entry))) (now (out .exit)) (now (balance .exit)) (now (nums .exit)) (now (notes .exit)) ⌝ }
 {
     let q = Payment {
         warehouse,
@@ -91,7 +92,7 @@ pub extern "C" fn book_payment(
         amount,
     };
     let who = flat::selection(named, number);
-    let a = payment::payment(nums, names, q, who, name);
+    let a = payment::payment(nums, names, notes, q, who, name);
     let o = a.outcome;
     *out = flat::payment_out(o);
     *balance = flat::payment_balance(o);

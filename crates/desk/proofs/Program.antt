@@ -1,5 +1,5 @@
--- The program's claim: whatever bytes come in, its book agrees with its history, no line is answered 2, 3, 9 or 13, and its last orders are those of
--- its book.
+-- The program's claim: whatever bytes come in, its book agrees with its history, no line is answered 2, 3, 9, 13 or 14, and its last orders are
+-- those of its book.
 -- Assumes nothing.
 use mathlib.Core.Path.{_≡_, refl, sym, subst}
 use mathlib.Core.Bool.{Bool, true, false, cond}
@@ -21,20 +21,21 @@ use Rattle.model.specs.Request.{Request, newOrder, payment, delivery, orderStat
 use Rattle.model.specs.RequestLine.{letter, Reading, read, noForm, readLine}
 use Rattle.model.specs.Text.{textOf}
 use Rattle.model.specs.AnswerLine.{printed, told, answerLine, noFormLine, printedFor}
-use Rattle.model.specs.Tally.{start, tally, openedOf, doneAll, afterAll}
+use Rattle.model.specs.Tally.{doneAll, afterAll, tallied}
 use Rattle.model.specs.Numbers.{nat, cell}
 use Rattle.model.specs.LastOrder.{lastAt}
 use Rattle.model.specs.Claim.{R, Claim, Never, lastOrder, Started, NeverBy}
 use Rattle.model.proofs.Demand.{demand}
 use Rattle.model.proofs.LastDemand.{last-orders, last-serves}
-use Rattle.model.proofs.Listing.{programBook, programNames, programLast, accepted}
+use Rattle.model.proofs.NoteDemand.{notes-serve}
+use Rattle.model.proofs.Listing.{programBook, programNames, programLast, programNotes, accepted}
 use Rattle.desk.specs.Step.{None239, Sound}
 use Rattle.desk.specs.Input.{leftBy, requestsIn, heldIn, Served}
 use Rattle.desk.proofs.Blocks.{left-requests}
 
 -- demand 3, of a book after requests
 abbrev pub Claimed : Lent → List Request → List ℤ → Type 0
-Claimed s rs b = Claim (dims (s .nums)) (s .nums) (tally (openedOf (s .nums) (s .names)) (doneAll s rs) start) b × Never (doneAll s rs)
+Claimed s rs b = Claim (dims (s .nums)) (s .nums) (tallied s rs) b × Never (doneAll s rs)
 
 -- ── an answer on a book that any lines left ──
 refused-by : (g f : Refusal) (figures : List ℤ) → answerBy g figures ≡ refused f → g ≡ f
@@ -92,7 +93,7 @@ module _ (s : Lent) (opened : openingFault (s .nums) (s .names) .number ≡ 0) w
 
 -- ── the program's book ──
 abbrev pub program : Lent
-program = lent programBook programNames programLast
+program = lent programBook programNames programLast programNotes
 
 -- whatever bytes come in
 pub program-claim : (input : List ℕ) → Claimed program (heldIn input) (afterAll program (heldIn input) .nums)
@@ -121,3 +122,9 @@ program-last left v w k c r s u =
 -- whatever bytes come in: no request is refused by 13
 pub program-serves : (input : List ℕ) → NeverBy 13 (doneAll program (heldIn input))
 program-serves input = last-serves program program-started (heldIn input)
+
+-- ── R-4: the program lends texts all spaces ──
+-- whatever bytes come in: no request is refused by 14
+pub program-noted : (input : List ℕ) → NeverBy 14 (doneAll program (heldIn input))
+unfolding dims cell nat
+program-noted input = notes-serve program refl (heldIn input)

@@ -29,6 +29,11 @@ pub record Carried (s : Lent) (q : Request) (r : RequestAnswer) (left : Lent) : 
   pub shows : r .part ≡ shownPart s q
   pub leaves : left ≡ after s q
 
--- a request of a kind that takes numbers and names alone, whatever is lent beside them
+-- a request of a kind that does not take a slice, whatever that slice is
+module _ {A : Type 0} where
+  abbrev pub Whatever : (A → Type 0) → Type 0
+  Whatever P = (x : A) → P x
+
+-- .. of a kind that takes numbers and names alone
 abbrev pub CarriedBeside : List ℤ → List ℕ → Request → RequestAnswer → List ℤ → Type 0
-CarriedBeside b names q r left = (last : List ℤ) → Carried (lent b names last) q r (lent left names last)
+CarriedBeside b names q r left = Whatever (λ last. Whatever (λ notes. Carried (lent b names last notes) q r (lent left names last notes)))

@@ -1,7 +1,7 @@
 // One request of any kind, carried out on the book.
 ghost use Rattle.model.specs.Names.{whoOf};
 ghost use Rattle.model.specs.Request.{lent, requestOf, linesOf, newOrder, payment, delivery, orderStatus, stockLevel};
-ghost use Rattle.engine.specs.Carried.{Carried, CarriedBeside};
+ghost use Rattle.engine.specs.Carried.{Carried, Whatever, CarriedBeside};
 use model::Delivery;
 use model::Form;
 use model::NewOrder;
@@ -13,7 +13,7 @@ use model::RequestOutcome;
 use model::Selection;
 use model::StockLevel;
 
-// New-Order, its lines as three slices.
+// New-Order, its lines as three slices, whatever the texts are.
 fn new_order(
     b: &mut [i64],
     names: &[u8],
@@ -23,9 +23,9 @@ fn new_order(
     supplies: &[u64],
     quantities: &[u64],
 ) -> RequestAnswer
-    ensures { λ r. ⌜ Carried (lent (now (b .entry)) (now (names .entry)) (now (last .entry)))
+    ensures { λ r. ⌜ Whatever (λ notes. Carried (lent (now (b .entry)) (now (names .entry)) (now (last .entry)) notes)
         (newOrder q (linesOf (now (items .entry)) (now (supplies .entry)) (now (quantities .entry))))
-        r (lent (now (b .exit)) (now (names .entry)) (now (last .exit))) ⌝ }
+        r (lent (now (b .exit)) (now (names .entry)) (now (last .exit)) notes)) ⌝ }
 {
     let a = new_order::new_order_split(b, names, last, q, items, supplies, quantities);
     let o = a.outcome;
@@ -40,10 +40,19 @@ fn new_order(
 }
 
 // Payment, whatever the last orders are.
-fn payment(b: &mut [i64], names: &[u8], q: Payment, who: Selection, name: &[u8]) -> RequestAnswer
-    ensures { λ r. ⌜ CarriedBeside (now (b .entry)) (now (names .entry)) (payment q (whoOf who (now (name .entry)))) r (now (b .exit)) ⌝ }
+fn payment(
+    b: &mut [i64],
+    names: &[u8],
+    notes: &mut [u8],
+    q: Payment,
+    who: Selection,
+    name: &[u8],
+) -> RequestAnswer
+    ensures { λ r. ⌜ Whatever (λ last. Carried (lent (now (b .entry)) (now (names .entry)) last (now (notes .entry)))
+        (payment q (whoOf who (now (name .entry))))
+        r (lent (now (b .exit)) (now (names .entry)) last (now (notes .exit)))) ⌝ }
 {
-    let a = payment::payment(b, names, q, who, name);
+    let a = payment::payment(b, names, notes, q, who, name);
     let o = a.outcome;
     let outcome = RequestOutcome::Payment(o);
     let orders = [0u64; 10];
@@ -55,7 +64,7 @@ fn payment(b: &mut [i64], names: &[u8], q: Payment, who: Selection, name: &[u8])
     }
 }
 
-// Delivery, whatever the last orders are.
+// Delivery, whatever last orders and texts are.
 fn delivery(b: &mut [i64], names: &[u8], q: Delivery) -> RequestAnswer
     ensures { λ r. ⌜ CarriedBeside (now (b .entry)) (now (names .entry)) (delivery q) r (now (b .exit)) ⌝ }
 {
@@ -71,7 +80,7 @@ fn delivery(b: &mut [i64], names: &[u8], q: Delivery) -> RequestAnswer
     }
 }
 
-// Order-Status.
+// Order-Status, whatever the texts are.
 fn order_status(
     b: &[i64],
     names: &[u8],
@@ -80,9 +89,9 @@ fn order_status(
     who: Selection,
     name: &[u8],
 ) -> RequestAnswer
-    ensures { λ r. ⌜ Carried (lent (now (b .entry)) (now (names .entry)) (now (last .entry)))
+    ensures { λ r. ⌜ Whatever (λ notes. Carried (lent (now (b .entry)) (now (names .entry)) (now (last .entry)) notes)
         (orderStatus q (whoOf who (now (name .entry))))
-        r (lent (now (b .entry)) (now (names .entry)) (now (last .entry))) ⌝ }
+        r (lent (now (b .entry)) (now (names .entry)) (now (last .entry)) notes)) ⌝ }
 {
     let a = order_status::status_shown(b, names, last, q, who, name);
     let o = a.outcome;
@@ -96,7 +105,7 @@ fn order_status(
     }
 }
 
-// Stock-Level, whatever the last orders are.
+// Stock-Level, whatever last orders and texts are.
 fn stock_level(b: &[i64], names: &[u8], q: StockLevel) -> RequestAnswer
     ensures { λ r. ⌜ CarriedBeside (now (b .entry)) (now (names .entry)) (stockLevel q) r (now (b .entry)) ⌝ }
 {
@@ -117,19 +126,20 @@ pub fn carry_out(
     b: &mut [i64],
     names: &[u8],
     last: &mut [i64],
+    notes: &mut [u8],
     form: Form,
     items: &[u64],
     supplies: &[u64],
     quantities: &[u64],
     name: &[u8],
 ) -> RequestAnswer
-    ensures { λ r. ⌜ Carried (lent (now (b .entry)) (now (names .entry)) (now (last .entry)))
+    ensures { λ r. ⌜ Carried (lent (now (b .entry)) (now (names .entry)) (now (last .entry)) (now (notes .entry)))
         (requestOf form (linesOf (now (items .entry)) (now (supplies .entry)) (now (quantities .entry))) (now (name .entry)))
-        r (lent (now (b .exit)) (now (names .entry)) (now (last .exit))) ⌝ }
+        r (lent (now (b .exit)) (now (names .entry)) (now (last .exit)) (now (notes .exit))) ⌝ }
 {
     match form {
         Form::NewOrder(q) => new_order(b, names, last, q, items, supplies, quantities),
-        Form::Payment(q, who) => payment(b, names, q, who, name),
+        Form::Payment(q, who) => payment(b, names, notes, q, who, name),
         Form::Delivery(q) => delivery(b, names, q),
         Form::OrderStatus(q, who) => order_status(b, names, last, q, who, name),
         Form::StockLevel(q) => stock_level(b, names, q),

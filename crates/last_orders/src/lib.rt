@@ -54,7 +54,7 @@ pub fn numbers_ok(last: &[i64], b: &[i64], d: Dims, w: u64, k: u64) -> bool
     requires { ⌜ Booked d (now b) × (R (d .warehouses) w × (R 10 k × ((districtUsed d (now b) w k ≡ true) × (lastLong d (now last) ≡ true)))) ⌝ }
     ensures { λ r. ⌜ r ≡ lastOk d (now (b .entry)) (now (last .entry)) w k ⌝ }
 {
-    let p = layout::last_at(d, w, k, 1);
+    let p = layout::of_customer(d, w, k, 1);
     let next = rows::next_order(b, d, w, k);
     all_before(last, p, d.customers, next)
 }
@@ -75,7 +75,7 @@ pub fn last_of(last: &[i64], d: Dims, w: u64, k: u64, c: u64) -> u64
     requires { ⌜ Dimensioned d × (R (d .warehouses) w × (R 10 k × (R (d .customers) c × (lastLong d (now last) ≡ true)))) ⌝ }
     ensures { λ r. ⌜ r ≡ nat (lastAt d (now (last .entry)) w k c) ⌝ }
 {
-    let p = layout::last_at(d, w, k, c);
+    let p = layout::of_customer(d, w, k, c);
     cells::get(last, p)
 }
 
@@ -84,6 +84,6 @@ pub fn note(last: &mut [i64], d: Dims, w: u64, k: u64, c: u64, order: u64)
     requires { ⌜ Dimensioned d × (R (d .warehouses) w × (R 10 k × (R (d .customers) c × ((length (now last) ≡ 10 * d .warehouses * d .customers) × (order < 2 ^ 63))))) ⌝ }
     ensures { λ r. ⌜ now (last .exit) ≡ run (perCustomer d) (lastOps w k c order) (now (last .entry)) ⌝ }
 {
-    let at = layout::last_at(d, w, k, c);
+    let at = layout::of_customer(d, w, k, c);
     cells::put(last, at, order);
 }

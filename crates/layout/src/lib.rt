@@ -278,7 +278,7 @@ pub fn name_at(d: Dims, w: u64, k: u64, c: u64) -> u64
 }
 
 // Where a customer's number stands in a slice that has one number per customer.
-pub fn last_at(d: Dims, w: u64, k: u64, c: u64) -> u64
+pub fn of_customer(d: Dims, w: u64, k: u64, c: u64) -> u64
     requires { ⌜ Dimensioned d × (R (d .warehouses) w × (R 10 k × R (d .customers) c)) ⌝ }
     ensures { λ r. ⌜ (r ≡ place (perCustomer d) (ofCustomer w k c)) × (r + 1 ≤ 10 * d .warehouses * d .customers) ⌝ }
 {

@@ -23,7 +23,7 @@ use Rattle.model.specs.Names.{Who, customerOf, foundNumber}
 use Rattle.model.specs.NewOrder.{newOrderFault, priceOf, takeLines, joinOps, newOrderCommit, newOrderBook}
 use Rattle.model.specs.Payment.{paymentFault, payer, payOps, paymentCommit, paymentBook}
 use Rattle.model.specs.Delivery.{deliveryFault, deliveryCommit, deliveryBook}
-use Rattle.model.specs.Request.{Request, newOrder, payment, delivery, orderStatus, stockLevel, lent, faultOf, numsAfter, lastAfter}
+use Rattle.model.specs.Request.{Request, newOrder, payment, delivery, orderStatus, stockLevel, Lent, faultOf, numsAfter, after}
 use Rattle.model.specs.Tally.{Opened, Tally, Order, N, worth, tallyPayment, tallyLines, tallyOrder, tallyDistricts, count, tally, afterAll, doneAll}
 use Rattle.model.specs.Claim.{R}
 use Rattle.model.proofs.NumberLaws.{nat-pos}
@@ -59,9 +59,9 @@ worth-same D f g h (l ∷ ls) r = cc (h (l .item) (r .0 .item), worth-same D f g
 
 module _ (D : Dims) (b₀ : List ℤ) (names : List ℕ) (t : Tally) (b : List ℤ) (g : Good D b₀ t b) where
   -- ── a committed call ──
-  pay-step : (q : Payment) (who : Who) → PayReady D b names q who → Good D b₀ (tallyPayment q (payer D names q who) t) (paymentCommit D b q (payer D names q who))
+  pay-step : (notes : List ℕ) (q : Payment) (who : Who) → PayReady D b names notes q who → Good D b₀ (tallyPayment q (payer D names q who) t) (paymentCommit D b q (payer D names q who))
   unfolding paymentCommit
-  pay-step q who r =
+  pay-step notes q who r =
       let c = payer D names q who in
       let en : num (shapes D) b historyCount ≡ length (t .payments) = ap nat (g .agrees .head .count) ∙ nat-pos (length (t .payments)) in
       let f : PayStep D t q c = record {
@@ -118,17 +118,17 @@ module _ (D : Dims) (b₀ : List ℤ) (names : List ℕ) (t : Tally) (b : List �
   }
 
   -- ── any call ──
-  pay-any : (q : Payment) (who : Who)
-      → Good D b₀ (cond (eqb (paymentFault b names q who .number) 0) (tallyPayment q (payer D names q who) t) t) (paymentBook b names q who)
+  pay-any : (notes : List ℕ) (q : Payment) (who : Who)
+      → Good D b₀ (cond (eqb (paymentFault b names notes q who .number) 0) (tallyPayment q (payer D names q who) t) t) (paymentBook b names notes q who)
   unfolding paymentBook
-  pay-any q who = go (eqb (paymentFault b names q who .number) 0) refl
+  pay-any notes q who = go (eqb (paymentFault b names notes q who .number) 0) refl
     where
-      go : (x : Bool) → eqb (paymentFault b names q who .number) 0 ≡ x
+      go : (x : Bool) → eqb (paymentFault b names notes q who .number) 0 ≡ x
           → Good D b₀ (cond x (tallyPayment q (payer D names q who) t) t) (cond x (paymentCommit (dims b) b q (payer (dims b) names q who)) b)
       go false e = g
       go true e =
-          let r : PayReady D b names q who = subst (λ (d : Dims). PayReady d b names q who) (g .agrees .head .head) (pay-ready b names q who (eqb-true _ _ e)) in
-          subst (λ (d : Dims). Good D b₀ (tallyPayment q (payer D names q who) t) (paymentCommit d b q (payer d names q who))) (sym (g .agrees .head .head)) (pay-step q who r)
+          let r : PayReady D b names notes q who = subst (λ (d : Dims). PayReady d b names notes q who) (g .agrees .head .head) (pay-ready b names notes q who (eqb-true _ _ e)) in
+          subst (λ (d : Dims). Good D b₀ (tallyPayment q (payer D names q who) t) (paymentCommit d b q (payer d names q who))) (sym (g .agrees .head .head)) (pay-step notes q who r)
 
   new-any : (last : List ℤ) (q : NewOrder) (ls : List Line)
       → Good D b₀ (cond (eqb (newOrderFault b names last q ls .number) 0)
@@ -159,17 +159,21 @@ module _ (D : Dims) (b₀ : List ℤ) (names : List ℕ) (t : Tally) (b : List �
   idle true = g
   idle false = g
 
-  pub call-step : (last : List ℤ) (r : Request) → Good D b₀ (cond (eqb (faultOf (lent b names last) r .number) 0) (count (openedAt D b₀ names) r t) t) (numsAfter (lent b names last) r)
-  unfolding faultOf numsAfter count payer
-  call-step last (newOrder q ls) = new-any last q ls
-  call-step last (payment q who) = pay-any q who
-  call-step last (delivery q) = deliver-any q
-  call-step last (orderStatus q who) = idle (eqb (faultOf (lent b names last) (orderStatus q who) .number) 0)
-  call-step last (stockLevel q) = idle (eqb (faultOf (lent b names last) (stockLevel q) .number) 0)
+-- ── any call, whatever is lent beside numbers and names ──
+module _ (D : Dims) (b₀ : List ℤ) where
+  -- what a call counts
+  abbrev pub counted : Tally → Lent → Request → Tally
+  counted t s r = cond (eqb (faultOf s r .number) 0) (count (openedAt D b₀ (s .names)) r t) t
 
--- ── any list ──
-pub list-step : (D : Dims) (b₀ : List ℤ) (names : List ℕ) (rs : List Request) (t : Tally) (b last : List ℤ) → Good D b₀ t b
-    → Good D b₀ (tally (openedAt D b₀ names) (doneAll (lent b names last) rs) t) (afterAll (lent b names last) rs .nums)
-list-step D b₀ names [] t b last g = g
-list-step D b₀ names (r ∷ rs) t b last g =
-    list-step D b₀ names rs (cond (eqb (faultOf (lent b names last) r .number) 0) (count (openedAt D b₀ names) r t) t) (numsAfter (lent b names last) r) (lastAfter (lent b names last) r) (call-step D b₀ names t b g last r)
+  pub call-step : (t : Tally) (s : Lent) → Good D b₀ t (s .nums) → (r : Request) → Good D b₀ (counted t s r) (numsAfter s r)
+  unfolding faultOf numsAfter count payer
+  call-step t s g (newOrder q ls) = new-any D b₀ (s .names) t (s .nums) g (s .last) q ls
+  call-step t s g (payment q who) = pay-any D b₀ (s .names) t (s .nums) g (s .notes) q who
+  call-step t s g (delivery q) = deliver-any D b₀ (s .names) t (s .nums) g q
+  call-step t s g (orderStatus q who) = idle D b₀ (s .names) t (s .nums) g (eqb (faultOf s (orderStatus q who) .number) 0)
+  call-step t s g (stockLevel q) = idle D b₀ (s .names) t (s .nums) g (eqb (faultOf s (stockLevel q) .number) 0)
+
+  -- ── any list ──
+  pub list-step : (rs : List Request) (t : Tally) (s : Lent) → Good D b₀ t (s .nums) → Good D b₀ (tally (openedAt D b₀ (s .names)) (doneAll s rs) t) (afterAll s rs .nums)
+  list-step [] t s g = g
+  list-step (r ∷ rs) t s g = list-step rs (counted t s r) (after s r) (call-step t s g r)

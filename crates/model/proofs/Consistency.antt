@@ -23,7 +23,7 @@ use Rattle.model.specs.Used.{orderUsed}
 use Rattle.model.specs.Delivery.{waits, oldest}
 use Rattle.model.specs.Opening.{openingFault}
 use Rattle.model.specs.Request.{Request, Lent}
-use Rattle.model.specs.Tally.{Tally, Order, Paid, N, M, is2, is3, sums, charged, start, openedOf, tally, doneAll, afterAll}
+use Rattle.model.specs.Tally.{Tally, Order, Paid, N, M, is2, is3, sums, charged, afterAll, tallied}
 use Rattle.model.specs.Claim.{R, noPaid}
 use Rattle.model.proofs.ListLaws.{largest-here}
 use Rattle.model.proofs.NumberLaws.{nat-pos}
@@ -401,4 +401,4 @@ module _ (D : Dims) (b₀ : List ℤ) (t : Tally) (b : List ℤ) (g : Good D b�
 -- after any list of calls from a book that opening accepts
 pub consistent : (s : Lent) → openingFault (s .nums) (s .names) .number ≡ 0 → (rs : List Request) → Consistent (dims (s .nums)) (afterAll s rs .nums)
 consistent s e rs =
-    good-consistent (dims (s .nums)) (s .nums) (tally (openedOf (s .nums) (s .names)) (doneAll s rs) start) (afterAll s rs .nums) (history-good s e rs)
+    good-consistent (dims (s .nums)) (s .nums) (tallied s rs) (afterAll s rs .nums) (history-good s e rs)

@@ -15,7 +15,7 @@ use Rattle.model.specs.Rows.{waiting}
 use Rattle.model.specs.Head.{dims}
 use Rattle.model.specs.Opening.{openingFault}
 use Rattle.model.specs.Request.{Request, Lent}
-use Rattle.model.specs.Tally.{Tally, N, M, charged, start, tally, openedOf, doneAll, afterAll}
+use Rattle.model.specs.Tally.{Tally, N, M, charged, start, openedOf, afterAll, tallied}
 use Rattle.model.specs.Claim.{R, HistoryIs, noPaid, Claim, Demand}
 use Rattle.model.proofs.Parts.{Agrees, bal-back}
 use Rattle.model.proofs.Booked.{start-booked}
@@ -63,17 +63,17 @@ agrees-claim D b₀ t b ag = record {
 
 -- the book and the tally after any list
 pub history-good : (s : Lent) → openingFault (s .nums) (s .names) .number ≡ 0 → (rs : List Request)
-    → Good (dims (s .nums)) (s .nums) (tally (openedOf (s .nums) (s .names)) (doneAll s rs) start) (afterAll s rs .nums)
+    → Good (dims (s .nums)) (s .nums) (tallied s rs) (afterAll s rs .nums)
 unfolding openedOf
 history-good s e rs =
     let b = s .nums in
     let fr = opened-fresh b (s .names) e in
-    list-step (dims b) b (s .names) rs start b (s .last) (record { agrees = fresh-agrees (dims b) b (s .names) fr; sane = start-sane (dims b); booked = start-booked })
+    list-step (dims b) b rs start s (record { agrees = fresh-agrees (dims b) b (s .names) fr; sane = start-sane (dims b); booked = start-booked })
 
 pub demand : Demand
 demand s e rs =
     let b = s .nums in
     let fr = opened-fresh b (s .names) e in (
-      agrees-claim (dims b) b (tally (openedOf b (s .names)) (doneAll s rs) start) (afterAll s rs .nums) (history-good s e rs .agrees),
-      never-list (dims b) b (s .names) fr rs start b (s .last) (record { agrees = fresh-agrees (dims b) b (s .names) fr; sane = start-sane (dims b); booked = start-booked }),
+      agrees-claim (dims b) b (tallied s rs) (afterAll s rs .nums) (history-good s e rs .agrees),
+      never-list (dims b) b rs start s fr (record { agrees = fresh-agrees (dims b) b (s .names) fr; sane = start-sane (dims b); booked = start-booked }),
     )

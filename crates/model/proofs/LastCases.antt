@@ -18,21 +18,25 @@ use Rattle.model.specs.Names.{byName, namePlace, lastName, firstName, na
 use Rattle.model.specs.Used.{warehouseUsed, districtUsed, customerUsed, itemUsed, stockUsed, orderUsed, customersUsed, namesUsed, ordersUsed, whoUsed, lineUsed}
 use Rattle.model.specs.LastOrder.{lastAt, lastLong, lastOk, foundOk}
 use Rattle.model.specs.NewOrder.{newAsked, priceOf, orderable, newUsed, newOrderFault, restock, newOrderCommit, orderTotal, newOrderTotal, newOrderAnswer, newOrderBook, newOrderNoted, newOrderLast}
-use Rattle.model.specs.Payment.{payAsked, payUsed, paymentFault, payer, paymentCommit, paidBalance, paymentAnswer, paymentBook}
+use Rattle.model.specs.Note.{notePlace, textAt, notesLong, noteOf, moved, replaced}
+use Rattle.model.specs.Payment.{payAsked, payUsed, paymentFault, payer, paymentCommit, paidBalance, paymentAnswer, paymentBook, isBad, noteCommit, paymentNotes}
 use Rattle.model.specs.Delivery.{deliveryAsked, deliverable, deliveryUsed, deliveryFault, waits, oldest, lineAmounts, deliverOrder, deliverDistrict, deliverTo, deliveryCommit, oldestTen, deliveryAnswer, deliveryOrders, deliveryBook}
 use Rattle.model.specs.OrderStatus.{statusAsked, statusUsed, statusFault, statusCustomer, statusOrder, orderShown, linesPart, statusAnswer, statusPart}
 use Rattle.model.specs.StockLevel.{windowFirst, windowCount, levelAsked, windowUsed, levelUsed, stockLevelFault, lineItems, windowItems, isLow, lowItems, stockLevelAnswer}
-use Rattle.model.specs.Request.{Lent, lent, answerOf, ordersOf, shownPart, numsAfter, lastAfter}
+use Rattle.model.specs.Request.{Lent, lent, answerOf, ordersOf, shownPart, numsAfter, lastAfter, notesAfter}
 use Rattle.model.specs.Text.{isNumber, valueOf, decimal, tabbed, lineText, partedBy}
 use Rattle.model.specs.RequestLine.{isName, isWho, whoRead, linesRead, readNewOrder, readPayment, readDelivery, readOrderStatus, readStockLevel, readFields, readLine}
 use Rattle.model.specs.AnswerLine.{answerLine, noFormLine, printedFor, leftAfter}
 use Rattle.model.specs.Claim.{lastOrder}
-use Rattle.model.proofs.Listing.{programBook, programNames, programLast}
-use Rattle.model.proofs.Readings.{Case, prints, left, Prints, Refuses, refusedBy, opened, everyone, noneOrdered}
+use Rattle.model.proofs.Listing.{programBook, programNames, programLast, programNotes}
+use Rattle.model.proofs.Readings.{Case, prints, left, Prints, Refuses, refusedBy, opened, everyone, noneOrdered, unwritten}
 
--- the program's book with a slice of its own
+-- a book of the program's size with a slice of its own; the program's book
+abbrev sized : List ℤ → List ℤ → Lent
+sized b last = lent b programNames last programNotes
+
 abbrev program : List ℤ → Lent
-program last = lent programBook programNames last
+program last = sized programBook last
 
 -- .. with customer 2's number in district 1, at index 1, and customer 1's, at index 0
 abbrev second : ℤ → List ℤ
@@ -82,7 +86,7 @@ history =
 
 -- two depots: the number of depot 2's district 3's customer 2 is at index 25; a 7 stands in depot 2's district 1, at index 20
 abbrev twoDepots : Lent
-twoDepots = lent opened everyone (set (noneOrdered opened) 20 (pos 7))
+twoDepots = lent opened everyone (set (noneOrdered opened) 20 (pos 7)) (unwritten opened)
 
 abbrev ofTwoDepots : List Case
 ofTwoDepots =
@@ -122,9 +126,9 @@ pub record LastCases : Type 0 where
       ∷ prints "S 1 2 #1" "S 13 0"
       ∷ [])
   pub negative : Refuses (program (first (negsuc 0))) (prints "S 1 1 #2" "S 13 0" ∷ prints "N 1 1 2 100 1 1 1" "N 13 0" ∷ [])
-  pub at-next : Refuses (lent ordered programNames (first (pos 2))) (prints "S 1 1 #1" "S 13 0" ∷ prints "N 1 1 1 5 2 1 1" "N 13 0" ∷ [])
+  pub at-next : Refuses (sized ordered (first (pos 2))) (prints "S 1 1 #1" "S 13 0" ∷ prints "N 1 1 1 5 2 1 1" "N 13 0" ∷ [])
   -- "taking as it stands what 13 passes": customer 2's number names customer 1's order; New-Order writes the new number
-  pub as-it-stands : Prints (lent ordered programNames (second (pos 1))) (
+  pub as-it-stands : Prints (sized ordered (second (pos 1))) (
       prints "S 1 1 #1" "S 0 1 0 0 0 0"
       ∷ prints "S 1 1 #2" "S 0 2 0 1 100 0 1 1 10 1000 0"
       ∷ prints "N 1 1 2 5 2 1 1" "N 0 2 288"
@@ -132,29 +136,29 @@ pub record LastCases : Type 0 where
       ∷ prints "S 1 1 #1" "S 0 1 0 0 0 0"
       ∷ [])
   -- "or the order that Order-Status finds holds a value out of range": carrier 11; "orders leave the latter's used rows": one that is not found refuses nothing
-  pub order-out-of-range : Prints (lent (set ordered 185 (pos 11)) programNames (first (pos 1))) (
+  pub order-out-of-range : Prints (sized (set ordered 185 (pos 11)) (first (pos 1))) (
       prints "S 1 1 #1" "S 13 0"
       ∷ prints "S 1 1 #2" "S 0 2 0 0 0 0"
       ∷ prints "N 1 1 1 5 2 1 1" "N 0 2 259"
       ∷ prints "S 1 1 #1" "S 0 1 0 2 5 0 2 1 1 250 0"
       ∷ [])
   -- .. and of a line: amount 0
-  pub line-out-of-range : Prints (lent (set ordered 192 (pos 0)) programNames (first (pos 1))) (prints "S 1 1 #1" "S 13 0" ∷ prints "S 1 1 =ALM" "S 0 2 0 0 0 0" ∷ [])
+  pub line-out-of-range : Prints (sized (set ordered 192 (pos 0)) (first (pos 1))) (prints "S 1 1 #1" "S 13 0" ∷ prints "S 1 1 =ALM" "S 0 2 0 0 0 0" ∷ [])
   -- "checked after 10": 9 first, of the customer, of the district's next order number, and of a line's stock
-  pub nine-first : Refuses (lent (set programBook 40 (pos 1000000000000)) programNames short) (
+  pub nine-first : Refuses (sized (set programBook 40 (pos 1000000000000)) short) (
       prints "S 1 1 #1" "S 9 0"
       ∷ prints "N 1 1 1 100 1 1 1" "N 9 0"
       ∷ prints "S 1 1 =ALM" "S 9 0"
       ∷ [])
-  pub next-out-of-range : Refuses (lent (set programBook 10 (pos 6)) programNames (first (pos 9))) (prints "S 1 1 #1" "S 9 0" ∷ prints "N 1 1 1 100 1 1 1" "N 9 0" ∷ [])
-  pub line-nine-first : Refuses (lent (set programBook 163 (pos 10000)) programNames short) (prints "N 1 1 1 100 1 1 1" "N 9 0" ∷ prints "N 1 1 1 100 2 1 1" "N 13 0" ∷ [])
+  pub next-out-of-range : Refuses (sized (set programBook 10 (pos 6)) (first (pos 9))) (prints "S 1 1 #1" "S 9 0" ∷ prints "N 1 1 1 100 1 1 1" "N 9 0" ∷ [])
+  pub line-nine-first : Refuses (sized (set programBook 163 (pos 10000)) short) (prints "N 1 1 1 100 1 1 1" "N 9 0" ∷ prints "N 1 1 1 100 2 1 1" "N 13 0" ∷ [])
   -- 10 first, of a wrong length and of a wrong number
   pub ten-first : Refuses (program short) (prints "S 1 1 =NO" "S 10 0" ∷ prints "S 1 1 =ALM" "S 13 0" ∷ [])
   pub no-name : statusAnswer programBook programNames short (record { warehouse = 1; district = 1 }) (byName []) ≡ refusedBy 10 0
   pub ten-before-number : Refuses (program (second (pos 1))) (prints "S 1 1 =NO" "S 10 0" ∷ prints "S 1 1 =ALM" "S 13 0" ∷ [])
   -- before 11 and 12, after 8
-  pub before-eleven : Refuses (lent (set programBook 10 (pos 5)) programNames (first (pos 5))) (prints "N 1 1 1 100 1 1 1" "N 13 0" ∷ prints "N 1 1 1 100 4 1 1" "N 13 0" ∷ [])
-  pub eleven-after : Refuses (lent (set programBook 10 (pos 5)) programNames (first (pos 4))) (prints "N 1 1 1 100 4 1 1" "N 11 0" ∷ prints "N 1 1 1 100 1 1 1" "N 11 0" ∷ [])
+  pub before-eleven : Refuses (sized (set programBook 10 (pos 5)) (first (pos 5))) (prints "N 1 1 1 100 1 1 1" "N 13 0" ∷ prints "N 1 1 1 100 4 1 1" "N 13 0" ∷ [])
+  pub eleven-after : Refuses (sized (set programBook 10 (pos 5)) (first (pos 4))) (prints "N 1 1 1 100 4 1 1" "N 11 0" ∷ prints "N 1 1 1 100 1 1 1" "N 11 0" ∷ [])
   pub before-twelve : Refuses (program short) (
       prints "N 1 1 1 100 4 1 1" "N 13 0"
       ∷ prints "N 1 1 1 100 9 1 1" "N 13 0"
@@ -165,7 +169,7 @@ pub record LastCases : Type 0 where
   pub two-depots-noted : left twoDepots ofTwoDepots .last ≡ (pos 1 ∷ replicate 19 (pos 0)) ++ (pos 7 ∷ replicate 4 (pos 0)) ++ (pos 1 ∷ replicate 14 (pos 0))
 
 pub last-cases : LastCases
-unfolding allTo nat cell balanceOk numbers nameBytes inside place get remap op upTo sumOf lowest largest warehouseTests districtTests customerTests itemTests stockTests slot orderTests lineTests orderOk dims dimsTests sizeTests headOk namePlace lastName firstName nameOk padded compareNames named before namesakes found customerOf warehouseUsed districtUsed customerUsed itemUsed stockUsed orderUsed customersUsed namesUsed ordersUsed whoUsed lineUsed lastLong lastOk foundOk lastOrder newAsked priceOf orderable newUsed newOrderFault restock newOrderCommit orderTotal newOrderTotal newOrderAnswer newOrderBook newOrderNoted newOrderLast payAsked payUsed paymentFault payer paymentCommit paidBalance paymentAnswer paymentBook deliveryAsked deliverable deliveryUsed deliveryFault waits oldest lineAmounts deliverOrder deliverDistrict deliverTo deliveryCommit oldestTen deliveryAnswer deliveryBook statusAsked statusUsed statusFault statusCustomer statusOrder orderShown linesPart statusAnswer statusPart windowFirst windowCount levelAsked windowUsed levelUsed stockLevelFault lineItems windowItems isLow lowItems stockLevelAnswer answerOf numsAfter lastAfter deliveryOrders ones ordersOf shownPart decimal tabbed lineText answerLine noFormLine printedFor leftAfter isNumber valueOf isName isWho whoRead partedBy linesRead readNewOrder readPayment readDelivery readOrderStatus readStockLevel readFields readLine
+unfolding allTo nat cell balanceOk numbers nameBytes inside place get remap op upTo sumOf lowest largest warehouseTests districtTests customerTests itemTests stockTests slot orderTests lineTests orderOk dims dimsTests sizeTests headOk namePlace lastName firstName nameOk padded compareNames named before namesakes found customerOf warehouseUsed districtUsed customerUsed itemUsed stockUsed orderUsed customersUsed namesUsed ordersUsed whoUsed lineUsed lastLong lastOk foundOk lastOrder newAsked priceOf orderable newUsed newOrderFault restock newOrderCommit orderTotal newOrderTotal newOrderAnswer newOrderBook newOrderNoted newOrderLast payAsked payUsed paymentFault payer paymentCommit paidBalance paymentAnswer paymentBook isBad noteCommit paymentNotes notesLong notePlace textAt noteOf moved replaced deliveryAsked deliverable deliveryUsed deliveryFault waits oldest lineAmounts deliverOrder deliverDistrict deliverTo deliveryCommit oldestTen deliveryAnswer deliveryBook statusAsked statusUsed statusFault statusCustomer statusOrder orderShown linesPart statusAnswer statusPart windowFirst windowCount levelAsked windowUsed levelUsed stockLevelFault lineItems windowItems isLow lowItems stockLevelAnswer answerOf numsAfter lastAfter notesAfter deliveryOrders ones ordersOf shownPart decimal tabbed lineText answerLine noFormLine printedFor leftAfter isNumber valueOf isName isWho whoRead partedBy linesRead readNewOrder readPayment readDelivery readOrderStatus readStockLevel readFields readLine
 last-cases = record {
   printed = refl;
   scan = refl;

@@ -18,17 +18,17 @@ use Rattle.model.specs.Tests.{Check, chk, fault}
 use Rattle.model.specs.Head.{dims, headOk}
 use Rattle.model.specs.Names.{Who}
 use Rattle.model.specs.NewOrder.{newAsked, newUsed, newOrderFault, newOrderNoted, newOrderLast}
-use Rattle.model.specs.Payment.{payAsked, payUsed, paymentFault}
+use Rattle.model.specs.Payment.{payAsked, payUsed, payFirst, paymentFault}
 use Rattle.model.specs.Delivery.{deliveryAsked, deliveryUsed, deliveryFault}
 use Rattle.model.specs.OrderStatus.{statusAsked, statusUsed, statusFault, statusCustomer, statusOrder}
 use Rattle.model.specs.StockLevel.{levelAsked, levelUsed, stockLevelFault}
-use Rattle.model.specs.Request.{Request, newOrder, payment, delivery, orderStatus, stockLevel, Lent, lent, faultOf, numsAfter, lastAfter}
-use Rattle.model.specs.Tally.{Tally, Order, worth, tallyLines, tallyOrder, tallyPayment, tallyDistricts, count, start, tally, openedOf, afterAll, doneAll}
+use Rattle.model.specs.Request.{Request, newOrder, payment, delivery, orderStatus, stockLevel, Lent, lent, faultOf, lastAfter, after}
+use Rattle.model.specs.Tally.{Tally, Order, worth, tallyLines, tallyOrder, tallyPayment, tallyDistricts, count, start, tally, openedOf, afterAll, doneAll, tallied}
 use Rattle.model.specs.Claim.{Started, LastOrders, NeverBy, LastServes}
 use Rattle.model.proofs.TestLaws.{and-right, Passed, PassAt, not-answered, in-range}
 use Rattle.model.proofs.NameLaws.{found-number}
 use Rattle.model.proofs.NewOrderFacts.{NewAsked, new-ready}
-use Rattle.model.proofs.Calls.{Good, openedAt, call-step}
+use Rattle.model.proofs.Calls.{Good, openedAt, counted, call-step}
 use Rattle.model.proofs.Never.{avoids, avoided}
 use Rattle.model.proofs.LastLaws.{Lasts, lasts-start, lasts-pay, lasts-districts, lasts-new, lasts-scan, lasts-long, lasts-ok, lasts-found}
 use Rattle.model.proofs.Demand.{history-good}
@@ -61,15 +61,15 @@ module _ (D : Dims) (b₀ : List ℤ) (names : List ℕ) (t : Tally) (b : List �
   unwritten true t′ h = h
   unwritten false t′ h = l
 
-  lasts-call : (r : Request) → Lasts D (cond (eqb (faultOf (lent b names last) r .number) 0) (count (openedAt D b₀ names) r t) t) (lastAfter (lent b names last) r)
+  lasts-call : (notes : List ℕ) (r : Request) → Lasts D (counted D b₀ t (lent b names last notes) r) (lastAfter (lent b names last notes) r)
   unfolding faultOf lastAfter count
-  lasts-call (newOrder q ls) = new-lasts q ls
-  lasts-call (payment q who) =
+  lasts-call notes (newOrder q ls) = new-lasts q ls
+  lasts-call notes (payment q who) =
       let c = openedAt D b₀ names .picks (q .custwarehouse) (q .custdistrict) who in
-      unwritten (eqb (paymentFault b names q who .number) 0) (tallyPayment q c t) (lasts-pay D q c t last l)
-  lasts-call (delivery q) = unwritten (eqb (deliveryFault b names q .number) 0) (tallyDistricts (q .warehouse) 10 t) (lasts-districts D (q .warehouse) 10 t last l)
-  lasts-call (orderStatus q who) = unwritten (eqb (statusFault b names last q who .number) 0) t l
-  lasts-call (stockLevel q) = unwritten (eqb (stockLevelFault b names q .number) 0) t l
+      unwritten (eqb (paymentFault b names notes q who .number) 0) (tallyPayment q c t) (lasts-pay D q c t last l)
+  lasts-call notes (delivery q) = unwritten (eqb (deliveryFault b names q .number) 0) (tallyDistricts (q .warehouse) 10 t) (lasts-districts D (q .warehouse) 10 t last l)
+  lasts-call notes (orderStatus q who) = unwritten (eqb (statusFault b names last q who .number) 0) t l
+  lasts-call notes (stockLevel q) = unwritten (eqb (stockLevelFault b names q .number) 0) t l
 
   -- ── 13, call by call ──
   new-13 : (q : NewOrder) (ls : List Line) → PassAt 13 (newAsked D q ls ++ newUsed D b last q ls)
@@ -94,32 +94,29 @@ module _ (D : Dims) (b₀ : List ℤ) (names : List ℕ) (t : Tally) (b : List �
   not-13 f p =
       not-answered 13 (chk (headOk b (length names)) 2 ∷ f (dims b)) (omega arith) (tt, λ _. subst (λ (d : Dims). PassAt 13 (f d)) (sym (g .agrees .head .head)) p)
 
-  serves-call : (r : Request) → faultOf (lent b names last) r .number ≢ 13
+  serves-call : (notes : List ℕ) (r : Request) → faultOf (lent b names last notes) r .number ≢ 13
   unfolding faultOf newOrderFault paymentFault deliveryFault statusFault stockLevelFault payAsked payUsed deliveryAsked deliveryUsed levelAsked levelUsed
-  serves-call (newOrder q ls) = not-13 (λ d. newAsked d q ls ++ newUsed d b last q ls) (new-13 q ls)
-  serves-call (payment q who) = not-13 (λ d. payAsked d q who ++ payUsed d b names q who) (avoided 13 (payAsked D q who ++ payUsed D b names q who) refl)
-  serves-call (delivery q) = not-13 (λ d. deliveryAsked d q ++ deliveryUsed d b q) (avoided 13 (deliveryAsked D q ++ deliveryUsed D b q) refl)
-  serves-call (orderStatus q who) = not-13 (λ d. statusAsked d q who ++ statusUsed d b names last q who) (status-13 q who)
-  serves-call (stockLevel q) = not-13 (λ d. levelAsked d q ++ levelUsed d b q) (avoided 13 (levelAsked D q ++ levelUsed D b q) refl)
+  serves-call notes (newOrder q ls) = not-13 (λ d. newAsked d q ls ++ newUsed d b last q ls) (new-13 q ls)
+  serves-call notes (payment q who) = not-13 (λ d. payFirst d notes q who ++ payUsed d b names q who) (avoided 13 (payFirst D notes q who ++ payUsed D b names q who) refl)
+  serves-call notes (delivery q) = not-13 (λ d. deliveryAsked d q ++ deliveryUsed d b q) (avoided 13 (deliveryAsked D q ++ deliveryUsed D b q) refl)
+  serves-call notes (orderStatus q who) = not-13 (λ d. statusAsked d q who ++ statusUsed d b names last q who) (status-13 q who)
+  serves-call notes (stockLevel q) = not-13 (λ d. levelAsked d q ++ levelUsed d b q) (avoided 13 (levelAsked D q ++ levelUsed D b q) refl)
 
 -- ── any list ──
-module _ (D : Dims) (b₀ : List ℤ) (names : List ℕ) where
-  -- what a call counts
-  abbrev counted : Tally → Lent → Request → Tally
-  counted t s r = cond (eqb (faultOf s r .number) 0) (count (openedAt D b₀ names) r t) t
+module _ (D : Dims) (b₀ : List ℤ) where
+  -- one call more
+  next-lasts : (t : Tally) (s : Lent) → Good D b₀ t (s .nums) → Lasts D t (s .last) → (r : Request) → Lasts D (counted D b₀ t s r) (lastAfter s r)
+  next-lasts t s g l r = lasts-call D b₀ (s .names) t (s .nums) g (s .last) l (s .notes) r
 
-  lasts-list : (rs : List Request) (t : Tally) (b last : List ℤ) → Good D b₀ t b → Lasts D t last
-      → Lasts D (tally (openedAt D b₀ names) (doneAll (lent b names last) rs) t) (afterAll (lent b names last) rs .last)
-  lasts-list [] t b last g l = l
-  lasts-list (r ∷ rs) t b last g l =
-      let s = lent b names last in
-      lasts-list rs (counted t s r) (numsAfter s r) (lastAfter s r) (call-step D b₀ names t b g last r) (lasts-call D b₀ names t b g last l r)
+  lasts-list : (rs : List Request) (t : Tally) (s : Lent) → Good D b₀ t (s .nums) → Lasts D t (s .last)
+      → Lasts D (tally (openedAt D b₀ (s .names)) (doneAll s rs) t) (afterAll s rs .last)
+  lasts-list [] t s g l = l
+  lasts-list (r ∷ rs) t s g l = lasts-list rs (counted D b₀ t s r) (after s r) (call-step D b₀ t s g r) (next-lasts t s g l r)
 
-  serves-list : (rs : List Request) (t : Tally) (b last : List ℤ) → Good D b₀ t b → Lasts D t last → NeverBy 13 (doneAll (lent b names last) rs)
-  serves-list [] t b last g l = tt
-  serves-list (r ∷ rs) t b last g l =
-      let s = lent b names last in
-      (serves-call D b₀ names t b g last l r, serves-list rs (counted t s r) (numsAfter s r) (lastAfter s r) (call-step D b₀ names t b g last r) (lasts-call D b₀ names t b g last l r))
+  serves-list : (rs : List Request) (t : Tally) (s : Lent) → Good D b₀ t (s .nums) → Lasts D t (s .last) → NeverBy 13 (doneAll s rs)
+  serves-list [] t s g l = tt
+  serves-list (r ∷ rs) t s g l =
+      (serves-call D b₀ (s .names) t (s .nums) g (s .last) l (s .notes) r, serves-list rs (counted D b₀ t s r) (after s r) (call-step D b₀ t s g r) (next-lasts t s g l r))
 
 -- all 0 is the empty tally's slice
 started-lasts : (s : Lent) → Started s → Lasts (dims (s .nums)) start (s .last)
@@ -127,18 +124,18 @@ started-lasts s h = subst (λ (last : List ℤ). Lasts (dims (s .nums)) start la
 
 -- the slice and the tally after any list
 history-lasts : (s : Lent) → Started s → (rs : List Request)
-    → Lasts (dims (s .nums)) (tally (openedOf (s .nums) (s .names)) (doneAll s rs) start) (afterAll s rs .last)
+    → Lasts (dims (s .nums)) (tallied s rs) (afterAll s rs .last)
 unfolding openedOf
-history-lasts s h rs = lasts-list (dims (s .nums)) (s .nums) (s .names) rs start (s .nums) (s .last) (history-good s (h .accepted) []) (started-lasts s h)
+history-lasts s h rs = lasts-list (dims (s .nums)) (s .nums) rs start s (history-good s (h .accepted) []) (started-lasts s h)
 
 -- "each number is the one the scan would find"
 pub last-orders : LastOrders
 last-orders s h rs =
     let D = dims (s .nums) in
-    let t = tally (openedOf (s .nums) (s .names)) (doneAll s rs) start in
+    let t = tallied s rs in
     let l = history-lasts s h rs in
     (l .long, λ w k c r d u. lasts-scan D (s .nums) t (afterAll s rs .nums) (history-good s (h .accepted) rs) w k r d (afterAll s rs .last) l c u)
 
 -- 13 is never answered
 pub last-serves : LastServes
-last-serves s h rs = serves-list (dims (s .nums)) (s .nums) (s .names) rs start (s .nums) (s .last) (history-good s (h .accepted) []) (started-lasts s h)
+last-serves s h rs = serves-list (dims (s .nums)) (s .nums) rs start s (history-good s (h .accepted) []) (started-lasts s h)

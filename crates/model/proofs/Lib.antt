@@ -43,9 +43,13 @@ pub mod Never
 pub mod LastLaws
 pub mod Demand
 pub mod LastDemand
+pub mod Steady
+pub mod NoteLaws
+pub mod NoteDemand
 pub mod Masters
 pub mod SlotLaws
 pub mod Consistency
 pub mod Listing
 pub mod Readings
 pub mod LastCases
+pub mod NoteCases

@@ -22,11 +22,12 @@ use Rattle.model.specs.Used.{warehouseUsed, districtUsed, customerUsed, 
 use Rattle.model.specs.LastOrder.{lastLong, lastOk, foundOk}
 use Rattle.model.specs.Opening.{newWarehouse, newDistrict, newCustomer, newStock, districtNew, warehouseNew, bookNew, openingFault}
 use Rattle.model.specs.NewOrder.{newAsked, priceOf, orderable, newUsed, newOrderFault, restock, newOrderCommit, orderTotal, newOrderTotal, newOrderAnswer, newOrderBook, newOrderNoted, newOrderLast}
-use Rattle.model.specs.Payment.{payAsked, payUsed, paymentFault, payer, paymentCommit, paidBalance, paymentAnswer, paymentBook}
+use Rattle.model.specs.Note.{notePlace, textAt, notesLong, noteOf, moved, replaced}
+use Rattle.model.specs.Payment.{payAsked, payUsed, paymentFault, payer, paymentCommit, paidBalance, paymentAnswer, paymentBook, isBad, noteCommit, paymentNotes}
 use Rattle.model.specs.Delivery.{deliveryAsked, deliverable, deliveryUsed, deliveryFault, waits, oldest, lineAmounts, deliverOrder, deliverDistrict, deliverTo, deliveryCommit, oldestTen, deliveryAnswer, deliveryOrders, deliveryBook}
 use Rattle.model.specs.OrderStatus.{statusAsked, statusUsed, statusFault, statusCustomer, statusOrder, orderShown, linesPart, statusAnswer, statusPart}
 use Rattle.model.specs.StockLevel.{windowFirst, windowCount, levelAsked, windowUsed, levelUsed, stockLevelFault, lineItems, windowItems, isLow, lowItems, stockLevelAnswer}
-use Rattle.model.specs.Request.{Lent, lent, answerOf, ordersOf, shownPart, numsAfter, lastAfter}
+use Rattle.model.specs.Request.{Lent, lent, answerOf, ordersOf, shownPart, numsAfter, lastAfter, notesAfter}
 use Rattle.model.specs.Text.{isNumber, valueOf, decimal, tabbed, lineText, partedBy}
 use Rattle.model.specs.RequestLine.{isName, isWho, whoRead, linesRead, readNewOrder, readPayment, readDelivery, readOrderStatus, readStockLevel, readFields, readLine}
 use Rattle.model.specs.AnswerLine.{answerLine, noFormLine, printedFor, leftAfter}
@@ -57,6 +58,10 @@ programNames =
 abbrev pub programLast : List ℤ
 programLast = replicate 20 (pos 0)
 
+-- R-4: the text "starts as spaces", 500 bytes a customer
+abbrev pub programNotes : List ℕ
+programNotes = replicate 10000 32
+
 -- a line of the paper, in which each space stands for a tab, as bytes
 abbrev pub bytes : String → List ℕ
 bytes none = []
@@ -78,7 +83,7 @@ unfolding openingFault headOk dims cell nat dimsTests sizeTests numbers nameByte
 accepted = refl
 
 -- the listing of document 01
-pub listing : answered (lent programBook programNames programLast) (lines (
+pub listing : answered (lent programBook programNames programLast programNotes) (lines (
     "N 1 1 1 100 1 1 10 2 1 3" ∷
     "N 1 1 1 101 1 1 1 4 1 1" ∷
     "N 1 1 2 102 1 1 1" ∷
@@ -94,5 +99,5 @@ pub listing : answered (lent programBook programNames programLast) (lines (
     "P 0 2 -500" ∷
     "S 0 1 1750 1 100 3 1 1 10 1000 200 2 1 3 750 200" ∷
     "L 0 1" ∷ [])
-unfolding allTo nat cell balanceOk numbers nameBytes inside place get remap op upTo sumOf lowest largest warehouseTests districtTests customerTests itemTests stockTests slot orderTests lineTests orderOk dims dimsTests sizeTests headOk namePlace lastName firstName nameOk padded compareNames named before namesakes found customerOf warehouseUsed districtUsed customerUsed itemUsed stockUsed orderUsed customersUsed namesUsed ordersUsed whoUsed lineUsed lastLong lastOk foundOk newAsked priceOf orderable newUsed newOrderFault restock newOrderCommit orderTotal newOrderTotal newOrderAnswer newOrderBook newOrderNoted newOrderLast payAsked payUsed paymentFault payer paymentCommit paidBalance paymentAnswer paymentBook deliveryAsked deliverable deliveryUsed deliveryFault waits oldest lineAmounts deliverOrder deliverDistrict deliverTo deliveryCommit oldestTen deliveryAnswer deliveryBook statusAsked statusUsed statusFault statusCustomer statusOrder orderShown linesPart statusAnswer statusPart windowFirst windowCount levelAsked windowUsed levelUsed stockLevelFault lineItems windowItems isLow lowItems stockLevelAnswer answerOf numsAfter lastAfter deliveryOrders ones ordersOf shownPart decimal tabbed lineText answerLine noFormLine printedFor leftAfter isNumber valueOf isName isWho whoRead partedBy linesRead readNewOrder readPayment readDelivery readOrderStatus readStockLevel readFields readLine
+unfolding allTo nat cell balanceOk numbers nameBytes inside place get remap op upTo sumOf lowest largest warehouseTests districtTests customerTests itemTests stockTests slot orderTests lineTests orderOk dims dimsTests sizeTests headOk namePlace lastName firstName nameOk padded compareNames named before namesakes found customerOf warehouseUsed districtUsed customerUsed itemUsed stockUsed orderUsed customersUsed namesUsed ordersUsed whoUsed lineUsed lastLong lastOk foundOk newAsked priceOf orderable newUsed newOrderFault restock newOrderCommit orderTotal newOrderTotal newOrderAnswer newOrderBook newOrderNoted newOrderLast payAsked payUsed paymentFault payer paymentCommit paidBalance paymentAnswer paymentBook isBad noteCommit paymentNotes notesLong notePlace textAt noteOf moved replaced deliveryAsked deliverable deliveryUsed deliveryFault waits oldest lineAmounts deliverOrder deliverDistrict deliverTo deliveryCommit oldestTen deliveryAnswer deliveryBook statusAsked statusUsed statusFault statusCustomer statusOrder orderShown linesPart statusAnswer statusPart windowFirst windowCount levelAsked windowUsed levelUsed stockLevelFault lineItems windowItems isLow lowItems stockLevelAnswer answerOf numsAfter lastAfter notesAfter deliveryOrders ones ordersOf shownPart decimal tabbed lineText answerLine noFormLine printedFor leftAfter isNumber valueOf isName isWho whoRead partedBy linesRead readNewOrder readPayment readDelivery readOrderStatus readStockLevel readFields readLine
 listing = refl

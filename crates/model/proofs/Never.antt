@@ -27,12 +27,12 @@ use Rattle.model.specs.Head.{dims, dimsTests, sizeTests, headOk}
 use Rattle.model.specs.Names.{Who, byNumber, byName, whoTests}
 use Rattle.model.specs.Used.{customersUsed, namesUsed, ordersUsed, districtUsed, itemUsed, stockUsed, listed, lineUsed, whoUsed}
 use Rattle.model.specs.NewOrder.{suppliable, newAsked, newUsed, newOrderFault}
-use Rattle.model.specs.Payment.{payAsked, payUsed, paymentFault}
+use Rattle.model.specs.Payment.{payAsked, payUsed, payFirst, paymentFault}
 use Rattle.model.specs.Delivery.{deliveryAsked, deliverable, deliveryUsed, deliveryFault}
 use Rattle.model.specs.OrderStatus.{statusAsked, statusUsed, statusFault}
 use Rattle.model.specs.StockLevel.{levelAsked, levelUsed, stockLevelFault}
-use Rattle.model.specs.Request.{Request, newOrder, payment, delivery, orderStatus, stockLevel, lent, faultOf, numsAfter, lastAfter}
-use Rattle.model.specs.Tally.{Tally, N, M, charged, count, doneAll}
+use Rattle.model.specs.Request.{Request, newOrder, payment, delivery, orderStatus, stockLevel, Lent, lent, faultOf, after}
+use Rattle.model.specs.Tally.{Tally, N, M, charged, doneAll}
 use Rattle.model.specs.Claim.{R, Never}
 use Rattle.model.proofs.TestLaws.{every-each, each-every, and-left, and-right, all-to, PassAt, Need, not-answered, in-within, in-range}
 use Rattle.model.proofs.NumberLaws.{nat-pos}
@@ -45,7 +45,7 @@ use Rattle.model.proofs.Parts.{bal, count-nat, timesOf, isPayer, times-
 use Rattle.model.proofs.StepDeliver.{next-num}
 use Rattle.model.proofs.Sane.{placed-le, sums-le}
 use Rattle.model.proofs.Fresh.{Fresh}
-use Rattle.model.proofs.Calls.{Good, openedAt, call-step}
+use Rattle.model.proofs.Calls.{Good, counted, call-step}
 
 -- no test has the number: `refl` for a literal list
 abbrev pub avoids : ℕ → List Check → Bool
@@ -238,33 +238,37 @@ module _ (D : Dims) (b₀ : List ℤ) (names : List ℕ) (fr : Fresh D b₀ name
       (in-district D b w k (district-row w k r s), (at-customers D b w k (λ c u. customer-row w k c r s u), (at-orders D b w k (orders-in D b₀ t b g w k r s), tt)))
 
   -- ── 9, call by call ──
-  pay-9 : (q : Payment) (who : Who) → PassAt 9 (chk (headOk b (length names)) 2 ∷ payAsked D q who ++ payUsed D b names q who)
+  pay-9 : (notes : List ℕ) (q : Payment) (who : Who) → PassAt 9 (chk (headOk b (length names)) 2 ∷ payFirst D notes q who ++ payUsed D b names q who)
   unfolding payAsked payUsed
-  pay-9 q who = (
+  pay-9 notes q who = (
     tt,
     λ _. (
       tt,
-      λ e4. (
+      λ _. (
         tt,
-        λ e5. (
+        λ e4. (
           tt,
-          λ e6. (
+          λ e5. (
             tt,
-            λ _. (
+            λ e6. (
               tt,
-              λ _.
-                  let f4 = every-each (within (q .warehouse) 1 (D .warehouses) ∷ within (q .custwarehouse) 1 (D .warehouses) ∷ []) e4 in
-                  let f5 = every-each (within (q .district) 1 10 ∷ within (q .custdistrict) 1 10 ∷ []) e5 in
-                  let w = in-range (q .warehouse) (D .warehouses) (f4 .0) in
-                  let cw = in-range (q .custwarehouse) (D .warehouses) (f4 .1 .0) in
-                  let k = in-range (q .district) 10 (f5 .0) in
-                  let ck = in-range (q .custdistrict) 10 (f5 .1 .0) in (
-                    in-warehouse D b (q .warehouse) (warehouse-row (q .warehouse) w),
-                    λ _. (
-                      in-district D b (q .warehouse) (q .district) (district-row (q .warehouse) (q .district) w k),
-                      λ _. (who-pass (q .custwarehouse) (q .custdistrict) who cw ck e6, λ _. (tt, λ _. (tt, λ _. tt))),
+              λ _. (
+                tt,
+                λ _.
+                    let f4 = every-each (within (q .warehouse) 1 (D .warehouses) ∷ within (q .custwarehouse) 1 (D .warehouses) ∷ []) e4 in
+                    let f5 = every-each (within (q .district) 1 10 ∷ within (q .custdistrict) 1 10 ∷ []) e5 in
+                    let w = in-range (q .warehouse) (D .warehouses) (f4 .0) in
+                    let cw = in-range (q .custwarehouse) (D .warehouses) (f4 .1 .0) in
+                    let k = in-range (q .district) 10 (f5 .0) in
+                    let ck = in-range (q .custdistrict) 10 (f5 .1 .0) in (
+                      in-warehouse D b (q .warehouse) (warehouse-row (q .warehouse) w),
+                      λ _. (
+                        in-district D b (q .warehouse) (q .district) (district-row (q .warehouse) (q .district) w k),
+                        λ _.
+                            (who-pass (q .custwarehouse) (q .custdistrict) who cw ck e6, λ _. (tt, λ _. (tt, λ _. tt))),
+                      ),
                     ),
-                  ),
+              ),
             ),
           ),
         ),
@@ -376,16 +380,16 @@ module _ (D : Dims) (b₀ : List ℤ) (names : List ℕ) (fr : Fresh D b₀ name
   sized : (f : Dims → List Check) → Not239 (fault (chk (headOk b (length names)) 2 ∷ f D) .number) → Not239 (fault (chk (headOk b (length names)) 2 ∷ f (dims b)) .number)
   sized f h = subst (λ (d : Dims). Not239 (fault (chk (headOk b (length names)) 2 ∷ f d) .number)) (sym (g .agrees .head .head)) h
 
-  pub never-call : (last : List ℤ) (r : Request) → (faultOf (lent b names last) r .number ≢ 2) × ((faultOf (lent b names last) r .number ≢ 3) × (faultOf (lent b names last) r .number ≢ 9))
+  never-call : (last : List ℤ) (notes : List ℕ) (r : Request) → Not239 (faultOf (lent b names last notes) r .number)
   unfolding faultOf newOrderFault paymentFault deliveryFault statusFault stockLevelFault newAsked newUsed payAsked payUsed deliveryAsked deliveryUsed statusAsked statusUsed levelAsked levelUsed
-  never-call last (newOrder q ls) = sized (λ d. newAsked d q ls ++ newUsed d b last q ls) (all-three (newAsked D q ls ++ newUsed D b last q ls) refl refl (new-9 last q ls))
-  never-call last (payment q who) = sized (λ d. payAsked d q who ++ payUsed d b names q who) (all-three (payAsked D q who ++ payUsed D b names q who) refl refl (pay-9 q who))
-  never-call last (delivery q) = sized (λ d. deliveryAsked d q ++ deliveryUsed d b q) (all-three (deliveryAsked D q ++ deliveryUsed D b q) refl refl (delivery-9 q))
-  never-call last (orderStatus q who) = sized (λ d. statusAsked d q who ++ statusUsed d b names last q who) (all-three (statusAsked D q who ++ statusUsed D b names last q who) refl refl (status-9 last q who))
-  never-call last (stockLevel q) = sized (λ d. levelAsked d q ++ levelUsed d b q) (all-three (levelAsked D q ++ levelUsed D b q) refl refl (level-9 q))
+  never-call last notes (newOrder q ls) = sized (λ d. newAsked d q ls ++ newUsed d b last q ls) (all-three (newAsked D q ls ++ newUsed D b last q ls) refl refl (new-9 last q ls))
+  never-call last notes (payment q who) = sized (λ d. payFirst d notes q who ++ payUsed d b names q who) (all-three (payFirst D notes q who ++ payUsed D b names q who) refl refl (pay-9 notes q who))
+  never-call last notes (delivery q) = sized (λ d. deliveryAsked d q ++ deliveryUsed d b q) (all-three (deliveryAsked D q ++ deliveryUsed D b q) refl refl (delivery-9 q))
+  never-call last notes (orderStatus q who) = sized (λ d. statusAsked d q who ++ statusUsed d b names last q who) (all-three (statusAsked D q who ++ statusUsed D b names last q who) refl refl (status-9 last q who))
+  never-call last notes (stockLevel q) = sized (λ d. levelAsked d q ++ levelUsed d b q) (all-three (levelAsked D q ++ levelUsed D b q) refl refl (level-9 q))
 
-pub never-list : (D : Dims) (b₀ : List ℤ) (names : List ℕ) → Fresh D b₀ names → (rs : List Request) (t : Tally) (b last : List ℤ) → Good D b₀ t b → Never (doneAll (lent b names last) rs)
-never-list D b₀ names fr [] t b last g = tt
-never-list D b₀ names fr (r ∷ rs) t b last g =
-    let n = never-call D b₀ names fr t b g last r in
-    (n .0, (n .1 .0, (n .1 .1, never-list D b₀ names fr rs (cond (eqb (faultOf (lent b names last) r .number) 0) (count (openedAt D b₀ names) r t) t) (numsAfter (lent b names last) r) (lastAfter (lent b names last) r) (call-step D b₀ names t b g last r))))
+pub never-list : (D : Dims) (b₀ : List ℤ) (rs : List Request) (t : Tally) (s : Lent) → Fresh D b₀ (s .names) → Good D b₀ t (s .nums) → Never (doneAll s rs)
+never-list D b₀ [] t s fr g = tt
+never-list D b₀ (r ∷ rs) t s fr g =
+    let n = never-call D b₀ (s .names) fr t (s .nums) g (s .last) (s .notes) r in
+    (n .0, (n .1 .0, (n .1 .1, never-list D b₀ rs (counted D b₀ t s r) (after s r) fr (call-step D b₀ t s g r))))

@@ -7,7 +7,7 @@ use Prim.Native.Nat.{ℕ, _≤_, _<_}
 use native.Mathlib.Omega.{arith}
 use lib.ListN.{length}
 use lib.IntN.{ℤ}
-use borrow.Author.Tests.{ltb-true}
+use borrow.Author.Tests.{ltb-true, eqb-true}
 use Rattle.model.specs.declared.Dims.{Dims}
 use Rattle.model.specs.declared.Payment.{Payment}
 use Rattle.model.specs.Tests.{every, fault, within}
@@ -17,7 +17,8 @@ use Rattle.model.specs.Store.{num}
 use Rattle.model.specs.Head.{dims, headOk}
 use Rattle.model.specs.Names.{Who, whoTests}
 use Rattle.model.specs.Rows.{historyCount}
-use Rattle.model.specs.Payment.{payAsked, payUsed, paymentFault, payer, payOps}
+use Rattle.model.specs.Note.{noteBytes, notesLong}
+use Rattle.model.specs.Payment.{payAsked, payUsed, payFirst, paymentFault, payer, payOps}
 use Rattle.model.specs.Claim.{R}
 use Rattle.model.proofs.TestLaws.{every-each, passed, numbered, within-in, in-range, staged-clear}
 use Rattle.model.proofs.Frame.{Fine}
@@ -45,8 +46,9 @@ pub record PayUsed (d : Dims) (b : List ℤ) (names : List ℕ) (q : Payment) (w
   pub customer : CustomerIn d b (q .custwarehouse) (q .custdistrict) (payer d names q who)
   pub room : num (shapes d) b historyCount < d .histories
 
-pub record PayReady (d : Dims) (b : List ℤ) (names : List ℕ) (q : Payment) (who : Who) : Type 0 where
+pub record PayReady (d : Dims) (b : List ℤ) (names notes : List ℕ) (q : Payment) (who : Who) : Type 0 where
   pub shaped : Shaped d b (length names)
+  pub noted : length notes ≡ noteBytes d
   pub asked : PayAsked d q who
   pub used : PayUsed d b names q who
 
@@ -90,14 +92,26 @@ pay-used d b names q who a e =
       room = ltb-true _ _ (h .1 .1 .1 .1 .0);
     }
 
+-- the tests before the rows
+pub pay-first-numbered : (d : Dims) (notes : List ℕ) (q : Payment) (who : Who) → numbered (payFirst d notes q who) ≡ true
+unfolding payAsked
+pay-first-numbered d notes q who = refl
+
+pub notes-long : (d : Dims) (notes : List ℕ) → notesLong d notes ≡ true → length notes ≡ noteBytes d
+unfolding notesLong
+notes-long d notes e = eqb-true _ _ e
+
 -- a payment that is not refused
-pub pay-ready : (b : List ℤ) (names : List ℕ) (q : Payment) (who : Who) → paymentFault b names q who .number ≡ 0 → PayReady (dims b) b names q who
+pub pay-ready : (b : List ℤ) (names notes : List ℕ) (q : Payment) (who : Who) → paymentFault b names notes q who .number ≡ 0 → PayReady (dims b) b names notes q who
 unfolding paymentFault
-pay-ready b names q who e =
-    let h = staged-clear (headOk b (length names)) (payAsked (dims b) q who) (payUsed (dims b) b names q who) (pay-asked-numbered (dims b) q who) e in
-    let a = pay-asked (dims b) q who (h .asked-none) in
+pay-ready b names notes q who e =
+    let first = payFirst (dims b) notes q who in
+    let h = staged-clear (headOk b (length names)) first (payUsed (dims b) b names q who) (pay-first-numbered (dims b) notes q who) e in
+    let f = passed first (pay-first-numbered (dims b) notes q who) (h .asked-none) .0 in
+    let a = pay-asked (dims b) q who (rw f at h .asked-none) in
     record {
       shaped = head-shaped b (length names) (h .fine);
+      noted = notes-long (dims b) notes f;
       asked = a;
       used = pay-used (dims b) b names q who (a .who-ok) (h .used-none);
     }
@@ -108,8 +122,8 @@ pub pay-fine : (d : Dims) (q : Payment) (h c : ℕ) → R (d .warehouses) (q .wa
 pay-fine d q h c w k cw ck rc room =
     (v1 d w 1 (omega arith), tt, (v2 d w k 1 (omega arith), tt, (v3 d cw ck rc 2 (omega arith), tt, (v3 d cw ck rc 3 (omega arith), tt, (v3 d cw ck rc 4 (omega arith), tt, (v7 d (record { lo = omega arith; hi = omega arith }) 0 (omega arith), refl, (v0 d 5 (omega arith), tt, tt)))))))
 
-pub pay-ready-fine : (d : Dims) (b : List ℤ) (names : List ℕ) (q : Payment) (who : Who) → PayReady d b names q who
+pub pay-ready-fine : (d : Dims) (b : List ℤ) (names notes : List ℕ) (q : Payment) (who : Who) → PayReady d b names notes q who
     → Fine (shapes d) (payOps (num (shapes d) b historyCount) q (payer d names q who))
-pay-ready-fine d b names q who r =
+pay-ready-fine d b names notes q who r =
     let a = r .asked in
     pay-fine d q (num (shapes d) b historyCount) (payer d names q who) (a .w) (a .k) (a .cw) (a .ck) (r .used .c) (r .used .room)

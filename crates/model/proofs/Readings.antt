@@ -26,11 +26,12 @@ use Rattle.model.specs.LastOrder.{lastLong, lastOk, foundOk}
 use Rattle.model.specs.Answer.{Answer, committed, refused}
 use Rattle.model.specs.Opening.{newWarehouse, newDistrict, newCustomer, newStock, districtNew, warehouseNew, bookNew, openingFault, openingAnswer}
 use Rattle.model.specs.NewOrder.{newAsked, priceOf, orderable, newUsed, newOrderFault, restock, newOrderCommit, orderTotal, newOrderTotal, newOrderAnswer, newOrderBook, newOrderNoted, newOrderLast}
-use Rattle.model.specs.Payment.{payAsked, payUsed, paymentFault, payer, paymentCommit, paidBalance, paymentAnswer, paymentBook}
+use Rattle.model.specs.Note.{noteBytes, notePlace, textAt, notesLong, noteOf, moved, replaced}
+use Rattle.model.specs.Payment.{payAsked, payUsed, paymentFault, payer, paymentCommit, paidBalance, paymentAnswer, paymentBook, isBad, noteCommit, paymentNotes}
 use Rattle.model.specs.Delivery.{deliveryAsked, deliverable, deliveryUsed, deliveryFault, waits, oldest, lineAmounts, deliverOrder, deliverDistrict, deliverTo, deliveryCommit, oldestTen, deliveryAnswer, deliveryOrders, deliveryBook}
 use Rattle.model.specs.OrderStatus.{statusAsked, statusUsed, statusFault, statusCustomer, statusOrder, orderShown, linesPart, statusAnswer, statusPart, statusLines}
 use Rattle.model.specs.StockLevel.{windowFirst, windowCount, levelAsked, windowUsed, levelUsed, stockLevelFault, lineItems, windowItems, isLow, lowItems, stockLevelAnswer}
-use Rattle.model.specs.Request.{Request, stockLevel, Lent, lent, answerOf, ordersOf, shownPart, numsAfter, lastAfter}
+use Rattle.model.specs.Request.{Request, stockLevel, Lent, lent, answerOf, ordersOf, shownPart, numsAfter, lastAfter, notesAfter}
 use Rattle.model.specs.Text.{positives, isNumber, valueOf, decimal, tabbed, lineText, partedBy}
 use Rattle.model.specs.RequestLine.{isName, isWho, whoRead, hasForm, fieldsOf, lineOf, linesRead, readNewOrder, readPayment, readDelivery, readOrderStatus, readStockLevel, readFields, readLine, writeFault, writeAnswer, writeBuffer}
 use Rattle.model.specs.AnswerLine.{answerLine, noFormLine, printedFor, leftAfter}
@@ -56,8 +57,12 @@ leftAll s (x ∷ xs) = leftAll (leftAfter s (readLine x)) xs
 abbrev pub noneOrdered : List ℤ → List ℤ
 noneOrdered b = replicate (10 * dims b .warehouses * dims b .customers) (pos 0)
 
+-- and texts all spaces
+abbrev pub unwritten : List ℤ → List ℕ
+unwritten b = replicate (noteBytes (dims b)) 32
+
 abbrev pub fresh : List ℤ → List ℕ → Lent
-fresh b names = lent b names (noneOrdered b)
+fresh b names = lent b names (noneOrdered b) (unwritten b)
 
 -- what the lines leave
 abbrev pub left : Lent → List Case → Lent
@@ -214,7 +219,7 @@ pub record Figures : Type 0 where
       ≡ committed (pos 9 ∷ pos 1022 ∷ [])
   -- "Distinct items on orders numbered from next − 20 (or 1) to next − 1, whose on hand at this depot is below the threshold, counted.":
   -- next 22, so items 2, 3 and 4. "taking the last order by date (clocks go back; the number decides)"
-  pub window : Prints (lent windowBook (alms 10) (pos 21 ∷ replicate 9 (pos 0))) (
+  pub window : Prints (lent windowBook (alms 10) (pos 21 ∷ replicate 9 (pos 0)) (unwritten windowBook)) (
       prints "L 1 1 10" "L 0 2"
       ∷ prints "L 1 1 11" "L 0 3"
       ∷ prints "S 1 1 #1" "S 0 1 0 21 30 0 4 1 1 100 0"
@@ -396,7 +401,7 @@ pub record Readings : Type 0 where
   pub limits : Limits
 
 pub readings : Readings
-unfolding allTo nat cell balanceOk numbers nameBytes inside place get remap op upTo sumOf lowest largest warehouseTests districtTests customerTests itemTests stockTests slot orderTests lineTests orderOk dims dimsTests sizeTests headOk namePlace lastName firstName nameOk padded compareNames named before namesakes found customerOf warehouseUsed districtUsed customerUsed itemUsed stockUsed orderUsed customersUsed namesUsed ordersUsed whoUsed lineUsed lastLong lastOk foundOk newAsked priceOf orderable newUsed newOrderFault restock newOrderCommit orderTotal newOrderTotal newOrderAnswer newOrderBook newOrderNoted newOrderLast payAsked payUsed paymentFault payer paymentCommit paidBalance paymentAnswer paymentBook deliveryAsked deliverable deliveryUsed deliveryFault waits oldest lineAmounts deliverOrder deliverDistrict deliverTo deliveryCommit oldestTen deliveryAnswer deliveryBook statusAsked statusUsed statusFault statusCustomer statusOrder orderShown linesPart statusAnswer statusPart statusLines windowFirst windowCount levelAsked windowUsed levelUsed stockLevelFault lineItems windowItems isLow lowItems stockLevelAnswer answerOf numsAfter lastAfter deliveryOrders ones ordersOf shownPart decimal tabbed lineText answerLine noFormLine printedFor leftAfter isNumber valueOf isName isWho whoRead partedBy linesRead readNewOrder readPayment readDelivery readOrderStatus readStockLevel readFields readLine newWarehouse newDistrict newCustomer newStock districtNew warehouseNew bookNew openingFault openingAnswer hasForm fieldsOf lineOf writeFault writeAnswer writeBuffer
+unfolding allTo nat cell balanceOk numbers nameBytes inside place get remap op upTo sumOf lowest largest warehouseTests districtTests customerTests itemTests stockTests slot orderTests lineTests orderOk dims dimsTests sizeTests headOk namePlace lastName firstName nameOk padded compareNames named before namesakes found customerOf warehouseUsed districtUsed customerUsed itemUsed stockUsed orderUsed customersUsed namesUsed ordersUsed whoUsed lineUsed lastLong lastOk foundOk newAsked priceOf orderable newUsed newOrderFault restock newOrderCommit orderTotal newOrderTotal newOrderAnswer newOrderBook newOrderNoted newOrderLast payAsked payUsed paymentFault payer paymentCommit paidBalance paymentAnswer paymentBook isBad noteCommit paymentNotes notesLong notePlace textAt noteOf moved replaced deliveryAsked deliverable deliveryUsed deliveryFault waits oldest lineAmounts deliverOrder deliverDistrict deliverTo deliveryCommit oldestTen deliveryAnswer deliveryBook statusAsked statusUsed statusFault statusCustomer statusOrder orderShown linesPart statusAnswer statusPart statusLines windowFirst windowCount levelAsked windowUsed levelUsed stockLevelFault lineItems windowItems isLow lowItems stockLevelAnswer answerOf numsAfter lastAfter notesAfter deliveryOrders ones ordersOf shownPart decimal tabbed lineText answerLine noFormLine printedFor leftAfter isNumber valueOf isName isWho whoRead partedBy linesRead readNewOrder readPayment readDelivery readOrderStatus readStockLevel readFields readLine newWarehouse newDistrict newCustomer newStock districtNew warehouseNew bookNew openingFault openingAnswer hasForm fieldsOf lineOf writeFault writeAnswer writeBuffer
 readings = record {
   figures = record { fraction = refl; once = refl; found-by-name = refl; printed = refl; rows = refl; mark = refl; window = refl };
   refusals = record { opening = refl; head = (refl, refl); new-order = (refl, refl); new-order-rows = (refl, refl); new-order-full = (refl, refl); new-order-last = (refl, refl); line-count = refl; payment = (refl, refl); payment-rows = (refl, refl); payment-home = refl; delivery = (refl, refl); order-status = (refl, refl); stock-level = (refl, refl); no-name = refl; no-name-row = refl };

@@ -17,7 +17,7 @@ use Rattle.model.specs.Lists.{largest}
 use Rattle.model.specs.LastOrder.{lastAt}
 use Rattle.model.specs.Opening.{openingFault}
 use Rattle.model.specs.Request.{Request, Lent}
-use Rattle.model.specs.Tally.{Tally, Done, Paid, N, M, charged, openedOf, start, tally, afterAll, doneAll}
+use Rattle.model.specs.Tally.{Tally, Done, Paid, N, M, charged, afterAll, doneAll, tallied}
 
 -- x is one of 1, .., n
 pub record R (n x : ℕ) : Type 0 where
@@ -75,11 +75,11 @@ abbrev pub Never : List Done → Type 0
 Never [] = Unit {0}
 Never (x ∷ xs) = (x .number ≢ 2) × ((x .number ≢ 3) × ((x .number ≢ 9) × Never xs))
 
--- "Take any list of the five calls .., refused ones included, from a book that opening has just accepted.", whatever last orders are lent beside it
+-- "Take any list of the five calls .., refused ones included, from a book that opening has just accepted.", whatever is lent beside it
 abbrev pub Demand : Type 0
 Demand =
     (s : Lent) → openingFault (s .nums) (s .names) .number ≡ 0 → (rs : List Request)
-    → Claim (dims (s .nums)) (s .nums) (tally (openedOf (s .nums) (s .names)) (doneAll s rs) start) (afterAll s rs .nums) × Never (doneAll s rs)
+    → Claim (dims (s .nums)) (s .nums) (tallied s rs) (afterAll s rs .nums) × Never (doneAll s rs)
 
 -- ── R-1 ──
 -- "the one the scan would find": of the orders before next the largest number of one that is the customer's, 0 where none is

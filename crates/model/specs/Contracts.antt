@@ -21,7 +21,7 @@ use Rattle.model.specs.Names.{Who}
 use Rattle.model.specs.Answer.{openingSays, newOrderSays, paymentSays, deliverySays, statusSays, stockLevelSays}
 use Rattle.model.specs.Opening.{openingAnswer}
 use Rattle.model.specs.NewOrder.{newOrderAnswer, newOrderBook, newOrderLast}
-use Rattle.model.specs.Payment.{paymentAnswer, paymentBook}
+use Rattle.model.specs.Payment.{paymentAnswer, paymentBook, paymentNotes}
 use Rattle.model.specs.Delivery.{deliveryAnswer, deliveryOrders, deliveryBook}
 use Rattle.model.specs.OrderStatus.{statusAnswer, statusPart, statusLines}
 use Rattle.model.specs.StockLevel.{stockLevelAnswer}
@@ -36,9 +36,11 @@ pub record NewOrderCall (b : List ℤ) (names : List ℕ) (last : List ℤ) (q :
   pub leaves : left ≡ newOrderBook b names last q lines
   pub notes : noted ≡ newOrderLast b names last q lines
 
-pub record PaymentCall (b : List ℤ) (names : List ℕ) (q : Payment) (who : Who) (r : PaymentAnswer) (left : List ℤ) : Type 0 where
-  pub says : paymentSays (r .outcome) ≡ paymentAnswer b names q who
-  pub leaves : left ≡ paymentBook b names q who
+-- written: the texts as the call leaves them
+pub record PaymentCall (b : List ℤ) (names notes : List ℕ) (q : Payment) (who : Who) (r : PaymentAnswer) (left : List ℤ) (written : List ℕ) : Type 0 where
+  pub says : paymentSays (r .outcome) ≡ paymentAnswer b names notes q who
+  pub leaves : left ≡ paymentBook b names notes q who
+  pub writes : written ≡ paymentNotes b names notes q who
 
 -- "Delivery's ten numbers stand beside it"
 pub record DeliveryCall (b : List ℤ) (names : List ℕ) (q : Delivery) (r : DeliveryAnswer) (left : List ℤ) : Type 0 where

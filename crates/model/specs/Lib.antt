@@ -14,6 +14,7 @@ pub mod Answer
 pub mod Opening
 pub mod NewOrder
 pub mod Rounding
+pub mod Note
 pub mod Payment
 pub mod Delivery
 pub mod OrderStatus
@@ -23,4 +24,5 @@ pub mod RequestLine
 pub mod AnswerLine
 pub mod Tally
 pub mod Claim
+pub mod NoteClaim
 pub mod Contracts

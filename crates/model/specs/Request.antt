@@ -18,7 +18,7 @@ use Rattle.model.specs.declared.StockLevel.{StockLevel}
 use Rattle.model.specs.Names.{Who, whoOf}
 use Rattle.model.specs.Answer.{Answer}
 use Rattle.model.specs.NewOrder.{newOrderFault, newOrderAnswer, newOrderBook, newOrderLast}
-use Rattle.model.specs.Payment.{paymentFault, paymentAnswer, paymentBook}
+use Rattle.model.specs.Payment.{paymentFault, paymentAnswer, paymentBook, paymentNotes}
 use Rattle.model.specs.Delivery.{deliveryFault, deliveryAnswer, deliveryOrders, deliveryBook}
 use Rattle.model.specs.OrderStatus.{emptyPart, partOf, statusFault, statusAnswer, statusPart}
 use Rattle.model.specs.StockLevel.{stockLevelFault, stockLevelAnswer}
@@ -61,21 +61,23 @@ pub record Lent : Type 0 where
   pub names : List ℕ
   -- R-1: the largest order number of each customer
   pub last : List ℤ
+  -- R-4: the text of each customer
+  pub notes : List ℕ
 
-abbrev pub lent : List ℤ → List ℕ → List ℤ → Lent
-lent b names last = record { nums = b; names = names; last = last }
+abbrev pub lent : List ℤ → List ℕ → List ℤ → List ℕ → Lent
+lent b names last notes = record { nums = b; names = names; last = last; notes = notes }
 
 -- the first refusal that fits a request on what is lent; number 0 where it is committed
 unfoldable pub faultOf : Lent → Request → Refusal
 faultOf s (newOrder q lines) = newOrderFault (s .nums) (s .names) (s .last) q lines
-faultOf s (payment q who) = paymentFault (s .nums) (s .names) q who
+faultOf s (payment q who) = paymentFault (s .nums) (s .names) (s .notes) q who
 faultOf s (delivery q) = deliveryFault (s .nums) (s .names) q
 faultOf s (orderStatus q who) = statusFault (s .nums) (s .names) (s .last) q who
 faultOf s (stockLevel q) = stockLevelFault (s .nums) (s .names) q
 
 unfoldable pub answerOf : Lent → Request → Answer
 answerOf s (newOrder q lines) = newOrderAnswer (s .nums) (s .names) (s .last) q lines
-answerOf s (payment q who) = paymentAnswer (s .nums) (s .names) q who
+answerOf s (payment q who) = paymentAnswer (s .nums) (s .names) (s .notes) q who
 answerOf s (delivery q) = deliveryAnswer (s .nums) (s .names) q
 answerOf s (orderStatus q who) = statusAnswer (s .nums) (s .names) (s .last) q who
 answerOf s (stockLevel q) = stockLevelAnswer (s .nums) (s .names) q
@@ -102,7 +104,7 @@ shownOf s r = partOf (shownPart s r) (s .nums)
 -- the book's numbers as a call leaves them
 unfoldable pub numsAfter : Lent → Request → List ℤ
 numsAfter s (newOrder q lines) = newOrderBook (s .nums) (s .names) (s .last) q lines
-numsAfter s (payment q who) = paymentBook (s .nums) (s .names) q who
+numsAfter s (payment q who) = paymentBook (s .nums) (s .names) (s .notes) q who
 numsAfter s (delivery q) = deliveryBook (s .nums) (s .names) q
 numsAfter s (orderStatus q who) = s .nums
 numsAfter s (stockLevel q) = s .nums
@@ -115,6 +117,14 @@ lastAfter s (delivery q) = s .last
 lastAfter s (orderStatus q who) = s .last
 lastAfter s (stockLevel q) = s .last
 
+-- R-4: "one and the same through a list of calls and written by Payment alone"
+unfoldable pub notesAfter : Lent → Request → List ℕ
+notesAfter s (newOrder q lines) = s .notes
+notesAfter s (payment q who) = paymentNotes (s .nums) (s .names) (s .notes) q who
+notesAfter s (delivery q) = s .notes
+notesAfter s (orderStatus q who) = s .notes
+notesAfter s (stockLevel q) = s .notes
+
 -- all that is lent as a call leaves it; the names are only read
 abbrev pub after : Lent → Request → Lent
-after s r = record { nums = numsAfter s r; names = s .names; last = lastAfter s r }
+after s r = record { nums = numsAfter s r; names = s .names; last = lastAfter s r; notes = notesAfter s r }

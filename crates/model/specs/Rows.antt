@@ -49,6 +49,9 @@ districtTests d r = leb (nat (r 0)) maxRate ∷ leb (nat (r 1)) maxMoney ∷ leb
 abbrev pub customerRow : ℕ → ℕ → ℕ → Addr
 customerRow w k c = at 3 w k c 0
 
+abbrev pub credit : ℕ → ℕ → ℕ → Addr
+credit w k c = at 3 w k c 0
+
 abbrev pub discount : ℕ → ℕ → ℕ → Addr
 discount w k c = at 3 w k c 1
 

@@ -164,8 +164,8 @@ sums c (o ∷ os) = cond (eqb c (o .customer)) (o .sum) 0 + sums c os
 abbrev pub charged : Tally → ℕ → ℕ → ℕ → ℕ
 charged t w k c = sums c (take (M t w k) (t .orders w k))
 
--- "Take any list of the five calls below, refused ones included .. Each call gets both slices as the one before left them"; R-1's slice is "one and
--- the same through a list of calls"
+-- "Take any list of the five calls below, refused ones included .. Each call gets both slices as the one before left them"; R-1's slice and R-4's
+-- text are "one and the same through a list of calls"
 abbrev pub afterAll : Lent → List Request → Lent
 afterAll s [] = s
 afterAll s (r ∷ rs) = afterAll (after s r) rs
@@ -173,3 +173,7 @@ afterAll s (r ∷ rs) = afterAll (after s r) rs
 abbrev pub doneAll : Lent → List Request → List Done
 doneAll s [] = []
 doneAll s (r ∷ rs) = record { request = r; number = faultOf s r .number } ∷ doneAll (after s r) rs
+
+-- the tally of a list of calls from what is lent at its start
+abbrev pub tallied : Lent → List Request → Tally
+tallied s rs = tally (openedOf (s .nums) (s .names)) (doneAll s rs) start

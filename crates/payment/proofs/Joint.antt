@@ -13,7 +13,7 @@ use lib.IntN.{ℤ, pos, _+ℤ_, _-ℤ_}
 use Rattle.model.specs.declared.Dims.{Dims}
 use Rattle.model.specs.declared.Payment.{Payment}
 use Rattle.model.specs.declared.Refusal.{Refusal}
-use Rattle.model.specs.Tests.{fault}
+use Rattle.model.specs.Tests.{bare, fault}
 use Rattle.model.specs.Head.{dims}
 use Rattle.model.specs.declared.PaymentAnswer.{PaymentAnswer}
 use Rattle.model.specs.Answer.{committed, refused, paymentSays}
@@ -23,20 +23,21 @@ use Rattle.model.specs.Store.{get, num}
 use Rattle.model.specs.Names.{Who}
 use Rattle.model.specs.Used.{warehouseUsed, districtUsed}
 use Rattle.model.specs.Rows.{historyCount, warehouseYtd, districtYtd, balance, ytdPayment, paymentCnt, historyRow}
-use Rattle.model.specs.Payment.{payAsked, payUsed, paymentFault, payer, payOps, paymentCommit, paidBalance, paymentAnswer, paymentBook, historyNumbers}
+use Rattle.model.specs.Note.{notePlace, textAt, noteBytes, notesLong, noteOf, moved, replaced}
+use Rattle.model.specs.Payment.{payAsked, payFirst, payUsed, paymentFault, payer, payOps, paymentCommit, paidBalance, isBad, noteCommit, paymentAnswer, paymentBook, paymentNotes, historyNumbers}
 use Rattle.model.proofs.NumberLaws.{raised}
 use Rattle.model.proofs.Fields.{v7, row-end, head-place, place-col}
 use Rattle.model.proofs.Rewrite.{puts-row}
 use Rattle.model.proofs.InTurn.{in-turn}
-use Rattle.model.proofs.TestLaws.{and-left, and-right}
+use Rattle.model.proofs.TestLaws.{and-left, and-right, turned-away, passed-on}
 use Rattle.model.proofs.AnswerLaws.{none-fits, committed-is, refused-is, changed-is, kept-is}
 use Rattle.layout.specs.Heads.{Read}
 use Rattle.layout.proofs.Heads.{behind-head}
-use Rattle.model.proofs.PaymentFacts.{PayReady, pay-ready, pay-fine}
+use Rattle.model.proofs.PaymentFacts.{PayReady, notes-long, pay-ready, pay-fine}
 use Rattle.payment.specs.declared.Payer.{Payer}
 use Rattle.payment.specs.Plan.{payerBy, nobody, payerIn, Payable, planOf, storePlan, Small}
 
-pub ready-payable : {d : Dims} {b : List ℤ} {names : List ℕ} {q : Payment} {who : Who} → PayReady d b names q who → Payable d b q (payer d names q who)
+pub ready-payable : {d : Dims} {b : List ℤ} {names notes : List ℕ} {q : Payment} {who : Who} → PayReady d b names notes q who → Payable d b q (payer d names q who)
 ready-payable r =
     let s = r .shaped in
     let a = r .asked in
@@ -115,44 +116,73 @@ module _ (b : List ℤ) (names : List ℕ) (q : Payment) (who : Who) where
   unfolding payUsed
   used-rest d {t} e s g = let h = sym e ∙ not-false t s in rw (and-left (warehouseUsed d b (q .warehouse)) (districtUsed d b (q .warehouse) (q .district)) h, and-right (warehouseUsed d b (q .warehouse)) (districtUsed d b (q .warehouse) (q .district)) h) g
 
+module _ (b : List ℤ) (names notes : List ℕ) (q : Payment) (who : Who) where
   -- ── a payment that is refused ──
-  pub turned-call : {r : Refusal} {a : PaymentAnswer} → r ≡ paymentFault b names q who → r .number ≢ 0 → paymentSays (a .outcome) ≡ refused r
-      → PaymentCall b names q who a b
-  unfolding paymentAnswer paymentBook
+  pub turned-call : {r : Refusal} {a : PaymentAnswer} → r ≡ paymentFault b names notes q who → r .number ≢ 0 → paymentSays (a .outcome) ≡ refused r
+      → PaymentCall b names notes q who a b notes
+  unfolding paymentAnswer paymentBook paymentNotes
   turned-call e n es =
+      let c = payer (dims b) names q who in
       record {
-        says = es ∙ refused-is e (pos (payer (dims b) names q who) ∷ paidBalance (dims b) b q (payer (dims b) names q who) ∷ []) n;
-        leaves = kept-is e (paymentCommit (dims b) b q (payer (dims b) names q who)) b n;
+        says = es ∙ refused-is e (pos c ∷ paidBalance (dims b) b q c ∷ []) n;
+        leaves = kept-is e (paymentCommit (dims b) b q c) b n;
+        writes = kept-is e (noteCommit (dims b) b notes q c) notes n;
       }
 
-  -- ── what the refusal and the payer say of the call ──
-  module _ {d : Dims} {p : Payer} (v : Read b (length names) d) (e : p ≡ payerIn d b names q who) where
-    pub refusal-is : p .refusal ≡ paymentFault b names q who
+  -- ── the stages behind the head ──
+  module _ {d : Dims} (v : Read b (length names) d) {t : Bool} (l : t ≡ notesLong d notes) where
+    -- by 14
+    pub unlike-long : {r : Refusal} → not t ≡ true → r ≡ bare 14 → r ≡ paymentFault b names notes q who
     unfolding paymentFault
-    refusal-is = behind-head b (length names) (λ x. payAsked x q who) (λ x. payUsed x b names q who) v (ap (λ (x : Payer). x .refusal) e)
+    unlike-long s e =
+        behind-head b (length names) (λ x. payFirst x notes q who) (λ x. payUsed x b names q who) v
+        (turned-away 14 (fault (payAsked d q who ++ payUsed d b names q who)) l s e)
 
-    who-pays : p .refusal .number ≡ 0 → p .customer ≡ payer d names q who
-    who-pays z =
-        let f = fault (payAsked d q who ++ payUsed d b names q who) in
-        ap (λ (x : Payer). x .customer) e ∙ rw (eq-eqb (f .number) 0 (sym (ap (λ (x : Payer). x .refusal .number) e) ∙ z))
+    -- what the refusal and the payer say of the call
+    module _ (s : not t ≡ false) {p : Payer} (e : p ≡ payerIn d b names q who) where
+      pub refusal-is : p .refusal ≡ paymentFault b names notes q who
+      unfolding paymentFault
+      refusal-is =
+          behind-head b (length names) (λ x. payFirst x notes q who) (λ x. payUsed x b names q who) v
+          (passed-on 14 (fault (payAsked d q who ++ payUsed d b names q who)) l s (ap (λ (x : Payer). x .refusal) e))
 
-    pub pays : p .refusal .number ≡ 0 → Payable d b q (p .customer)
-    pays z =
-        subst (λ (x : Dims). Payable x b q (p .customer)) (sym (v .same))
-        (rw (who-pays z, v .same) (ready-payable (pay-ready b names q who (none-fits refusal-is z))))
+      who-pays : p .refusal .number ≡ 0 → p .customer ≡ payer d names q who
+      who-pays z =
+          let f = fault (payAsked d q who ++ payUsed d b names q who) in
+          ap (λ (x : Payer). x .customer) e ∙ rw (eq-eqb (f .number) 0 (sym (ap (λ (x : Payer). x .refusal .number) e) ∙ z))
 
-    pub paid-call : {a : PaymentAnswer} {left : List ℤ} → p .refusal .number ≡ 0
-        → paymentSays (a .outcome) ≡ committed (pos (p .customer) ∷ paidBalance d b q (p .customer) ∷ []) → left ≡ paymentCommit d b q (p .customer)
-        → PaymentCall b names q who a left
-    unfolding paymentAnswer paymentBook
-    paid-call z es el =
-        let c : p .customer ≡ payer (dims b) names q who = who-pays z ∙ ap (λ (x : Dims). payer x names q who) (v .same) in
-        let c′ = payer (dims b) names q who in
-        record {
-          says =
-              es
-              ∙ ap (λ (i : ℕ). committed (pos i ∷ paidBalance d b q i ∷ [])) c
-              ∙ ap (λ (x : Dims). committed (pos c′ ∷ paidBalance x b q c′ ∷ [])) (v .same)
-              ∙ committed-is refusal-is (pos c′ ∷ paidBalance (dims b) b q c′ ∷ []) z;
-          leaves = el ∙ ap (paymentCommit d b q) c ∙ ap (λ (x : Dims). paymentCommit x b q c′) (v .same) ∙ changed-is refusal-is (paymentCommit (dims b) b q c′) b z;
-        }
+      pub pays : p .refusal .number ≡ 0 → Payable d b q (p .customer)
+      pays z =
+          subst (λ (x : Dims). Payable x b q (p .customer)) (sym (v .same))
+          (rw (who-pays z, v .same) (ready-payable (pay-ready b names notes q who (none-fits refusal-is z))))
+
+      pub noted-long : length notes ≡ noteBytes d
+      noted-long = notes-long d notes (sym l ∙ not-false t s)
+
+      -- what is computed of the size read and of the payer, of those of the book
+      by-book : {A : Type 0} (f : Dims → ℕ → A) → p .refusal .number ≡ 0 → f d (p .customer) ≡ f (dims b) (payer (dims b) names q who)
+      by-book f z = ap (f d) (who-pays z) ∙ ap (λ (x : Dims). f x (payer x names q who)) (v .same)
+
+      pub paid-call : {a : PaymentAnswer} {left : List ℤ} {written : List ℕ} → p .refusal .number ≡ 0
+          → paymentSays (a .outcome) ≡ committed (pos (p .customer) ∷ paidBalance d b q (p .customer) ∷ []) → left ≡ paymentCommit d b q (p .customer)
+          → written ≡ noteCommit d b notes q (p .customer) → PaymentCall b names notes q who a left written
+      unfolding paymentAnswer paymentBook paymentNotes
+      paid-call z es el ew =
+          let c = payer (dims b) names q who in
+          record {
+            says = es ∙ by-book (λ x i. committed (pos i ∷ paidBalance x b q i ∷ [])) z ∙ committed-is refusal-is (pos c ∷ paidBalance (dims b) b q c ∷ []) z;
+            leaves = el ∙ by-book (λ x i. paymentCommit x b q i) z ∙ changed-is refusal-is (paymentCommit (dims b) b q c) b z;
+            writes = ew ∙ by-book (λ x i. noteCommit x b notes q i) z ∙ changed-is refusal-is (noteCommit (dims b) b notes q c) notes z;
+          }
+
+-- ── the note, by the credit that was read ──
+module _ (d : Dims) (b : List ℤ) (notes : List ℕ) (q : Payment) (c : ℕ) {t : Bool} (e : t ≡ isBad d b (q .custwarehouse) (q .custdistrict) c) where
+  pub bad-noted : t ≡ true
+      → replaced (notePlace d (q .custwarehouse) (q .custdistrict) c) (moved (noteOf q c) (textAt d notes (q .custwarehouse) (q .custdistrict) c)) notes
+      ≡ noteCommit d b notes q c
+  unfolding noteCommit
+  bad-noted z = rw (← e, z)
+
+  pub good-kept : t ≡ false → notes ≡ noteCommit d b notes q c
+  unfolding noteCommit
+  good-kept z = rw (← e, z)

@@ -13,7 +13,7 @@ use Rattle.model.specs.Store.{get, num}
 use Rattle.model.specs.Rows.{historyCount, warehouseYtd, districtYtd, balance, ytdPayment, paymentCnt, historyRow}
 use Rattle.model.specs.Tests.{bare, fault}
 use Rattle.model.specs.Names.{Who}
-use Rattle.model.specs.Payment.{payAsked, payUsed, payer, historyNumbers}
+use Rattle.model.specs.Payment.{payAsked, payUsed, payer, historyNumbers, paymentCommit, paidBalance, isBad, noteCommit}
 use Rattle.model.specs.Answer.{leftBy}
 use Rattle.model.specs.Claim.{R}
 use Rattle.model.proofs.Fields.{Dimensioned}
@@ -67,6 +67,7 @@ planOf d b q c = record {
   newpayments = num (shapes d) b (paymentCnt (q .custwarehouse) (q .custdistrict) c) + 1;
   history = place (shapes d) (historyRow (num (shapes d) b historyCount + 1));
   count = num (shapes d) b historyCount + 1;
+  bad = isBad d b (q .custwarehouse) (q .custdistrict) c;
 }
 
 -- a plan that can be stored in a book of n numbers
@@ -102,3 +103,9 @@ storePlan b p q c =
     let b4 = set b3 (p .paid) (pos (p .newpaid)) in
     let b5 = set b4 (p .payments) (pos (p .newpayments)) in
     set (puts b5 (p .history) 0 (historyNumbers q c)) 5 (pos (p .count))
+
+-- a payment carried out: the balance answered, the numbers and the texts left
+pub record Settled (d : Dims) (b : List ℤ) (notes : List ℕ) (q : Payment) (c : ℕ) (balance : ℤ) (left : List ℤ) (written : List ℕ) : Type 0 where
+  pub answers : balance ≡ paidBalance d b q c
+  pub leaves : left ≡ paymentCommit d b q c
+  pub writes : written ≡ noteCommit d b notes q c

@@ -8,12 +8,13 @@ ghost use Rattle.model.specs.Claim.{R};
 ghost use Rattle.model.specs.Names.{byNumber, byName, whoOf};
 ghost use Rattle.model.specs.Answer.{refused, paymentSays};
 ghost use Rattle.model.specs.Contracts.{PaymentCall};
-ghost use Rattle.model.specs.Payment.{payAsked, payUsed, payer, historyNumbers, paidBalance, paymentCommit};
+ghost use Rattle.model.specs.Note.{noteBytes};
+ghost use Rattle.model.specs.Payment.{payAsked, payUsed, payer, historyNumbers};
 ghost use Rattle.model.proofs.Fields.{Shaped};
 ghost use Rattle.model.proofs.PaymentFacts.{PayAsked};
 ghost use Rattle.model.proofs.Rewrite.{puts};
 ghost use Rattle.rows.specs.Book.{Booked};
-ghost use Rattle.payment.specs.Plan.{payerBy, nobody, payerFrom, payerIn, Payable, planOf, Storable, Small, storePlan};
+ghost use Rattle.payment.specs.Plan.{payerBy, nobody, payerFrom, payerIn, Payable, planOf, Storable, Small, storePlan, Settled};
 use layout::Head;
 use model::Dims;
 use model::Found;
@@ -30,7 +31,7 @@ pub struct Payer {
     pub customer: u64,
 }
 
-// The numbers that a payment changes: where they stand, and what they become.
+// The numbers that a payment changes: where they stand, and what they become; and whether the customer's credit is bad.
 pub struct Plan {
     pub warehouse: u64,
     pub warehouseytd: u64,
@@ -44,6 +45,7 @@ pub struct Plan {
     pub newpayments: u64,
     pub history: u64,
     pub count: u64,
+    pub bad: bool,
 }
 
 // The first refusal that the request alone decides.
@@ -180,6 +182,7 @@ fn plan_of(b: &[i64], d: Dims, q: Payment, c: u64) -> Plan
     let newpayments = cells::held(b, payments) + 1;
     let count = cells::held(b, 5) + 1;
     let history = layout::history_at(d, count);
+    let bad = cells::held(b, row) == 1;
     Plan {
         warehouse,
         warehouseytd,
@@ -193,6 +196,7 @@ fn plan_of(b: &[i64], d: Dims, q: Payment, c: u64) -> Plan
         newpayments,
         history,
         count,
+        bad,
     }
 }
 
@@ -224,13 +228,17 @@ fn store_plan(b: &mut [i64], p: Plan, q: Payment, c: u64)
     cells::put(b, 5, p.count);
 }
 
-// A payment by customer c that no refusal applies to; answers the balance.
-fn commit(b: &mut [i64], d: Dims, q: Payment, c: u64) -> i64
-    requires { ⌜ Payable d (now b) q c ⌝ }
-    ensures { λ r. ⌜ (r ≡ paidBalance d (now (b .entry)) q c) × (now (b .exit) ≡ paymentCommit d (now (b .entry)) q c) ⌝ }
+// A payment by customer c that no refusal applies to; answers the balance. Where the credit is bad, it is noted in the customer's text.
+fn commit(b: &mut [i64], notes: &mut [u8], d: Dims, q: Payment, c: u64) -> i64
+    requires { ⌜ Payable d (now b) q c × (length (now notes) ≡ noteBytes d) ⌝ }
+    ensures { λ r. ⌜ Settled d (now (b .entry)) (now (notes .entry)) q c r (now (b .exit)) (now (notes .exit)) ⌝ }
 {
     let p = plan_of(b, d, q, c);
     store_plan(b, p, q, c);
+    if !p.bad {
+        return p.newbalance;
+    }
+    notes::note(notes, d, q, c);
     p.newbalance
 }
 
@@ -242,23 +250,28 @@ fn turned_away(refusal: Refusal) -> PaymentAnswer
     PaymentAnswer { outcome }
 }
 
-// Payment, by customer number or by last name.
+// Payment, by customer number or by last name; notes has the customers' texts.
 pub fn payment(
     b: &mut [i64],
     names: &[u8],
+    notes: &mut [u8],
     q: Payment,
     who: Selection,
     name: &[u8],
 ) -> PaymentAnswer
-    ensures { λ r. ⌜ PaymentCall (now (b .entry)) (now (names .entry)) q (whoOf who (now (name .entry))) r (now (b .exit)) ⌝ }
+    ensures { λ r. ⌜ PaymentCall (now (b .entry)) (now (names .entry)) (now (notes .entry)) q (whoOf who (now (name .entry)))
+        r (now (b .exit)) (now (notes .exit)) ⌝ }
 {
     let Head::Book(d) = layout::head_of(b, names) else {
         return turned_away(cells::refused(2));
     };
+    if !notes::long_ok(notes, d) {
+        return turned_away(cells::refused(14));
+    }
     let payer = payer_in(b, names, d, q, who, name);
     let refusal = payer.refusal;
     if refusal.number == 0 {
-        let balance = commit(b, d, q, payer.customer);
+        let balance = commit(b, notes, d, q, payer.customer);
         let outcome = PaymentOutcome::Committed(PaymentFigures {
             customer: payer.customer,
             balance,

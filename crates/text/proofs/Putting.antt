@@ -26,7 +26,7 @@ pub sets-append : (l : List ℕ) (i : ℕ) (xs ys : List ℕ) → sets l i (xs +
 sets-append l i [] ys = rw add-zero
 sets-append l i (x ∷ xs) ys = rw (sets-append (set l i x) (suc i) xs ys, add-suc, suc-add)
 
-wrote-then : (l m k : List ℕ) (at p q : ℕ) (xs ys : List ℕ) → Wrote l m at p xs → Wrote m k p q ys → Wrote l k at q (xs ++ ys)
+pub wrote-then : (l m k : List ℕ) (at p q : ℕ) (xs ys : List ℕ) → Wrote l m at p xs → Wrote m k p q ys → Wrote l k at q (xs ++ ys)
 wrote-then l m k at p q xs ys a b =
     record {
       same = b .same ∙ ap (λ (x : List ℕ). sets x p ys) (a .same) ∙ ap (λ (x : ℕ). sets (sets l at xs) x ys) (a .place) ∙ sym (sets-append l at xs ys);

@@ -170,7 +170,7 @@ fn book(orders: usize) -> Lent {
         }
     }
     nums.resize(nums.len() + 7 * H, 0);
-    Lent { nums, names: names(), last: last_orders(orders) }
+    Lent { nums, names: names(), last: last_orders(orders), notes: vec![b' '; 5_000 * W * C] }
 }
 
 /// The last orders of every district's customers, as `order` enters them.

@@ -34,12 +34,30 @@ fn history_slots_up_to_1_000_000() {
     both_sides([1, 1, 1, 1, 1_000_000], [1, 1, 1, 1, 1_000_001]);
 }
 
+/// Both engines put a note into the last of the longest notes, which are of 300,000,000 bytes, and into nothing else of the last two texts.
+#[test]
+fn notes_up_to_300_000_000_bytes() {
+    let head = [20, 3_000, 1, 1, 2];
+    let mut lent = book(head);
+    let credit = 6 + 2 * 20 + 3 * 200 + 6 * (200 * 3_000 - 1);
+    lent.nums[credit] = 1;
+    let [_, payment, ..] = requests(head);
+    let said = [print::call(&mut ProvedEngine, &mut lent, &payment), print::call(&mut SecondEngine, &mut lent, &payment)];
+    assert_eq!(said, ["P 0 3000 -500", "P 0 3000 -1000"]);
+    let end = &lent.notes[300_000_000 - 1_000..];
+    let note = "3000 10 20 10 20 500;";
+    assert_eq!(String::from_utf8_lossy(end), format!("{:500}{:500}", "", note.repeat(2)));
+}
+
 /// Committed at the limit; refused by 2 where a length is one off, and above the limit; New-Order and Order-Status by 13 where that of the last
-/// orders is.
+/// orders is, Payment by 14 where that of the notes is.
 fn both_sides(limit: Head, above: Head) {
     committed(limit, &book(limit));
     for last in [-1, 1] {
         refused_by_13(limit, &off_last(book(limit), last));
+    }
+    for notes in [-1, 1] {
+        refused_by_14(limit, &off_notes(book(limit), notes));
     }
     for numbers in [-1, 1] {
         refused(limit, &off(book(limit), numbers, 0));
@@ -86,6 +104,23 @@ fn refused_by_13(head: Head, lent: &Lent) {
     assert!(proved == second && proved.last == lent.last, "{head:?}: the books differ");
 }
 
+/// Payment is refused by 14, the other calls are not, and the notes are left.
+fn refused_by_14(head: Head, lent: &Lent) {
+    let [w, c, i, ..] = head;
+    let said = [
+        "OPEN 0".to_string(),
+        "N 0 1 750".to_string(),
+        "P 14 0".to_string(),
+        "D 0 9 511 0 0 0 0 0 0 0 0 0 1".to_string(),
+        format!("S 0 {c} 750 1 100 3 {i} {w} 3 750 200"),
+        "L 0 1".to_string(),
+    ];
+    let (mut proved, mut second) = (lent.clone(), lent.clone());
+    assert_eq!(answers(&mut ProvedEngine, &mut proved, head), said, "the proved library, {head:?}, {}", lent.notes.len());
+    assert_eq!(answers(&mut SecondEngine, &mut second, head), said, "the second engine, {head:?}, {}", lent.notes.len());
+    assert!(proved == second && proved.notes == lent.notes, "{head:?}: the books differ");
+}
+
 /// Opening and one call of each kind, on the last warehouse, district, customer and item.
 fn answers(engine: &mut impl Engine, lent: &mut Lent, head: Head) -> Vec<String> {
     let mut said = vec![print::open(engine.open(lent))];
@@ -129,12 +164,18 @@ fn book(head: Head) -> Lent {
     nums.extend([250].repeat(i));
     nums.extend([20, 0, 0, 0].repeat(w * i));
     nums.resize(nums.len() + 81 * 10 * w * o + 7 * h, 0);
-    Lent { nums, names: vec![b'A'; 32 * 10 * w * c], last: vec![0; 10 * w * c] }
+    Lent { nums, names: vec![b'A'; 32 * 10 * w * c], last: vec![0; 10 * w * c], notes: vec![b' '; 5_000 * w * c] }
 }
 
 /// The book with that many more last orders.
 fn off_last(mut lent: Lent, numbers: isize) -> Lent {
     lent.last.resize(lent.last.len().wrapping_add_signed(numbers), 0);
+    lent
+}
+
+/// The book with that many more bytes of notes.
+fn off_notes(mut lent: Lent, bytes: isize) -> Lent {
+    lent.notes.resize(lent.notes.len().wrapping_add_signed(bytes), b' ');
     lent
 }
 

@@ -22,6 +22,8 @@ pub struct Book {
     pub names: Vec<u8>,
     /// The last order of each customer.
     pub last: Vec<i64>,
+    /// The text of each customer.
+    pub notes: Vec<u8>,
 }
 
 impl Book {
@@ -46,8 +48,12 @@ impl Book {
             name[16..16 + first.len()].copy_from_slice(first);
             names.extend_from_slice(&name);
         }
-        let last = vec![0; LAYOUT.last_orders()];
-        Book { nums, names, last }
+        Book {
+            nums,
+            names,
+            last: vec![0; LAYOUT.last_orders()],
+            notes: vec![b' '; LAYOUT.note_bytes()],
+        }
     }
 
     /// Carries out one line, its byte 10 with it, and gives the answer's line.
@@ -67,7 +73,7 @@ impl Book {
                 Outcome::Committed(f) => format!("N\t0\t{}\t{}", f.order, f.total),
                 Outcome::Refused(refusal) => refused('N', refusal),
             },
-            Request::Payment(r) => match crate::payment(nums, names, r) {
+            Request::Payment(r) => match crate::payment(nums, names, &mut self.notes, r) {
                 Outcome::Committed(f) => format!("P\t0\t{}\t{}", f.customer, f.balance),
                 Outcome::Refused(refusal) => refused('P', refusal),
             },

@@ -67,6 +67,9 @@ pub mod history {
 /// Bytes of one customer's names: last name, then first name.
 pub const NAMES_WIDTH: usize = 2 * ranges::NAME_BYTES;
 
+/// Bytes of one customer's text, in the lent notes.
+pub const TEXT_WIDTH: usize = 500;
+
 const DISTRICTS: usize = ranges::DISTRICTS as usize;
 
 /// The dimensions of a book whose head and lengths are in order.
@@ -126,6 +129,11 @@ impl Layout {
         self.warehouses * DISTRICTS * self.customers
     }
 
+    /// How many bytes the notes have: a text for each customer.
+    pub fn note_bytes(&self) -> usize {
+        self.warehouses * DISTRICTS * self.customers * TEXT_WIDTH
+    }
+
     fn warehouse_start(&self) -> usize {
         HEAD
     }
@@ -159,6 +167,11 @@ impl Layout {
         (warehouse - 1) * DISTRICTS + district - 1
     }
 
+    /// Customers before this one, over all warehouses and districts.
+    fn customers_before(&self, warehouse: usize, district: usize, customer: usize) -> usize {
+        self.districts_before(warehouse, district) * self.customers + customer - 1
+    }
+
     pub fn warehouse(&self, warehouse: usize) -> Range<usize> {
         row(self.warehouse_start(), warehouse - 1, warehouse::WIDTH)
     }
@@ -169,7 +182,7 @@ impl Layout {
     }
 
     pub fn customer(&self, warehouse: usize, district: usize, customer: usize) -> Range<usize> {
-        let before = self.districts_before(warehouse, district) * self.customers + customer - 1;
+        let before = self.customers_before(warehouse, district, customer);
         row(self.customer_start(), before, customer::WIDTH)
     }
 
@@ -201,6 +214,12 @@ impl Layout {
     /// The place of a customer's number, in the lent last orders.
     pub fn last_order(&self, warehouse: usize, district: usize, customer: usize) -> usize {
         self.last_orders_of(warehouse, district).start + customer - 1
+    }
+
+    /// A customer's text, in the lent notes.
+    pub fn text(&self, warehouse: usize, district: usize, customer: usize) -> Range<usize> {
+        let before = self.customers_before(warehouse, district, customer);
+        row(0, before, TEXT_WIDTH)
     }
 
     /// The place of an item's price.

@@ -6,7 +6,8 @@
 //! changes nothing. Identifiers use TPC-C's words; document 01's depot is `warehouse`.
 //!
 //! A further lent slice (R-1 of document 02) has the last order number of each customer:
-//! New-Order writes it, Order-Status reads it, no other call takes it.
+//! New-Order writes it, Order-Status reads it, no other call takes it. Another, the
+//! notes, has a text of 500 bytes for each customer: Payment alone takes and writes it.
 
 pub mod answer;
 pub mod book_program;
@@ -16,6 +17,7 @@ pub mod layout;
 pub mod lines;
 pub mod lists;
 pub mod new_order;
+pub mod note;
 pub mod opening;
 pub mod order_status;
 pub mod payment;

@@ -3,20 +3,32 @@
 use crate::answer::{Outcome, PaymentFigures, Refusal};
 use crate::checks::{self, demand};
 use crate::layout::{customer, district, warehouse, Layout, HISTORY_COUNT};
+use crate::note;
 use crate::ranges;
 use crate::request::Payment;
 use crate::rows;
 use crate::who::{self, Found};
 
-pub fn payment(nums: &mut [i64], names: &[u8], request: &Payment) -> Outcome<PaymentFigures> {
-    judge(nums, names, request)
-        .map(|(layout, customer)| commit(nums, &layout, request, customer))
+pub fn payment(
+    nums: &mut [i64],
+    names: &[u8],
+    notes: &mut [u8],
+    request: &Payment,
+) -> Outcome<PaymentFigures> {
+    judge(nums, names, notes, request)
+        .map(|(layout, customer)| commit(nums, notes, &layout, request, customer))
         .into()
 }
 
 /// All checks in order; gives the customer who pays.
-fn judge(nums: &[i64], names: &[u8], request: &Payment) -> Result<(Layout, usize), Refusal> {
+fn judge(
+    nums: &[i64],
+    names: &[u8],
+    notes: &[u8],
+    request: &Payment,
+) -> Result<(Layout, usize), Refusal> {
     let layout = checks::layout(nums, names)?;
+    demand(notes.len() == layout.note_bytes(), 14)?;
     checks::warehouse(&layout, request.warehouse)?;
     checks::warehouse(&layout, request.customer_warehouse)?;
     checks::district(request.district)?;
@@ -51,8 +63,14 @@ fn home(request: &Payment) -> (usize, usize) {
     )
 }
 
-/// Writes a payment that no check refused.
-fn commit(nums: &mut [i64], layout: &Layout, request: &Payment, customer: usize) -> PaymentFigures {
+/// Writes a payment that no check refused; with bad credit it is noted.
+fn commit(
+    nums: &mut [i64],
+    notes: &mut [u8],
+    layout: &Layout,
+    request: &Payment,
+    customer: usize,
+) -> PaymentFigures {
     let (warehouse, district) = (request.warehouse as usize, request.district as usize);
     let amount = request.amount as i64;
     nums[layout.warehouse(warehouse)][warehouse::YTD] += amount;
@@ -63,11 +81,27 @@ fn commit(nums: &mut [i64], layout: &Layout, request: &Payment, customer: usize)
     row[customer::YTD_PAYMENT] += amount;
     row[customer::PAYMENT_COUNT] += 1;
     let balance = row[customer::BALANCE];
+    if row[customer::CREDIT] == 1 {
+        let text = layout.text(home_warehouse, home_district, customer);
+        note::put(&mut notes[text], noted(request, customer));
+    }
     add_history(nums, layout, request, customer);
     PaymentFigures {
         customer: customer as u64,
         balance,
     }
+}
+
+/// The numbers of a payment's note.
+fn noted(request: &Payment, customer: usize) -> [u64; 6] {
+    [
+        customer as u64,
+        request.customer_district,
+        request.customer_warehouse,
+        request.district,
+        request.warehouse,
+        request.amount,
+    ]
 }
 
 fn add_history(nums: &mut [i64], layout: &Layout, request: &Payment, customer: usize) {

@@ -5,7 +5,7 @@ mod common;
 use common::*;
 use second::book_program::{self, Book};
 use second::new_order::{left_on_hand, total};
-use second::replay::Lent;
+use second::replay::{Engine, Lent, SecondEngine};
 use second::stock_level::window_start;
 use second::who::place;
 use second::*;
@@ -59,8 +59,7 @@ fn listing_through_the_program() {
 
 #[test]
 fn listing_through_replay() {
-    let Book { nums, names, last } = Book::built_in();
-    let mut text = lists::lend(&Lent { nums, names, last });
+    let mut text = lists::lend(&program());
     text.push_str(
         "OPEN\nN 1 1 1 100 2 1 1 10 2 1 3\nN 1 1 1 101 2 1 1 1 4 1 1\nN 1 1 2 102 1 1 1 1\n\
          D 1 3 200\nP 1 1 1 1 =414c4d 201 500\nS 1 1 #1\nL 1 1 18\n",
@@ -103,6 +102,7 @@ fn book_after_the_listing() {
     assert_eq!(book.last[..2], [1, 2]);
     assert_eq!(book.last[2..], [0; 18]);
     assert!(book.names == Book::built_in().names);
+    assert_eq!(book.notes, [b' '; 10_000]); // all credit is good
 }
 
 #[test]
@@ -147,8 +147,7 @@ fn opening_writes_nothing_and_ignores_slots() {
 fn item_named_twice_is_taken_twice_in_turn() {
     let mut lent = fresh();
     let lines = [line(1, 1, 10), line(1, 1, 1)];
-    let Lent { nums, names, last } = &mut lent;
-    let outcome = new_order(nums, names, last, &new_order_of(&lines));
+    let outcome = SecondEngine.new_order(&mut lent, &new_order_of(&lines));
     let figures = NewOrderFigures {
         order: 1,
         total: 1_139, // 1,100 x 0.9 x 1.15 = 1,138.5
@@ -222,7 +221,8 @@ fn second_of_three_equal_names() {
         };
         assert_eq!(f.customer, expected, "{firsts:?}");
         let mut nums = book.nums.clone();
-        let outcome = payment(&mut nums, &names, &payment_by(named("ALM")));
+        let notes = &mut [b' '; 15_000];
+        let outcome = payment(&mut nums, &names, notes, &payment_by(named("ALM")));
         let figures = PaymentFigures {
             customer: expected,
             balance: -500,
@@ -383,9 +383,11 @@ fn one_item_an_order(next: i64) -> Lent {
         nums.extend([0; 70]);
     }
     nums.extend(vec![0; 9 * 24 * 81 + 7]);
-    let names = b"A                               ".repeat(10);
-    let last = Vec::new(); // Stock-Level does not take them
-    Lent { nums, names, last }
+    Lent {
+        nums,
+        names: b"A                               ".repeat(10),
+        ..Lent::default() // Stock-Level takes nothing else
+    }
 }
 
 #[test]
@@ -419,8 +421,7 @@ fn refused_order_does_not_use_up_its_number() {
     let bad = Request::NewOrder(new_order_of(&[line(1, 1, 1), line(3, 1, 1)]));
     assert_eq!(call(&mut lent, &bad), (12, 2));
     let good = new_order_of(&[line(1, 1, 1)]);
-    let Lent { nums, names, last } = &mut lent;
-    let Outcome::Committed(f) = new_order(nums, names, last, &good) else {
+    let Outcome::Committed(f) = SecondEngine.new_order(&mut lent, &good) else {
         panic!("refused");
     };
     assert_eq!(f.order, 1);

@@ -3,15 +3,8 @@
 mod common;
 
 use common::*;
-use second::book_program::Book;
 use second::replay::Lent;
 use second::*;
-
-/// The program's book with its last orders: W 1, C 2, I 5, O 4.
-fn program() -> Lent {
-    let Book { nums, names, last } = Book::built_in();
-    Lent { nums, names, last }
-}
 
 /// The program's book with these numbers in other places, and these last orders, 0 behind them.
 fn changed(nums: &[(usize, i64)], first: &[i64]) -> Lent {
@@ -39,22 +32,6 @@ const ONE_ORDER: [(usize, i64); 10] = [
 
 fn with_one_order(also: &[(usize, i64)], first: &[i64]) -> Lent {
     changed(&[&ONE_ORDER, also].concat(), first)
-}
-
-/// Commands of the replay format beside their answers.
-fn answers(lent: &Lent, expected: &[(&str, &str)]) {
-    let mut text = lists::lend(lent);
-    for (command, _) in expected {
-        text.push_str(command);
-        text.push('\n');
-    }
-    let said = replayed(&text);
-    let pairs: Vec<(&str, &str)> = expected
-        .iter()
-        .zip(&said)
-        .map(|(&(command, _), answer)| (command, answer.as_str()))
-        .collect();
-    assert_eq!(pairs, expected);
 }
 
 const ALM: &str = "=414c4d";

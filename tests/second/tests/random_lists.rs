@@ -12,6 +12,10 @@ use second::replay::{Engine, Lent, SecondEngine, Slices};
 use second::who::{self, Found};
 use second::*;
 use std::collections::HashMap;
+use std::sync::LazyLock;
+
+/// How often lists reach each answer, counted once for all tests.
+static COUNTS: LazyLock<stats::Counts> = LazyLock::new(|| stats::count(11, 2_500));
 
 /// Makes a call and gives its number; asserts that a refused one changes nothing.
 fn call(lent: &mut Lent, request: &Request) -> u64 {
@@ -64,23 +68,23 @@ fn write_back(cap: usize, request: &Request) {
 
 #[test]
 fn every_answer_is_reached() {
-    let counts = stats::count(11, 2_000);
     let reached = |word: &str, number: u64| -> u64 {
-        let same = counts
+        let same = COUNTS
             .iter()
             .filter(|((w, n, _), _)| w == word && *n == number);
         same.map(|(_, times)| times).sum()
     };
-    let answers: [(&str, &[u64]); 9] = [
+    let answers: [(&str, &[u64]); 10] = [
         ("OPEN", &[0, 2, 3]),
         ("N", &[0, 2, 4, 5, 6, 7, 8, 9, 11, 12, 13]),
-        ("P", &[0, 2, 4, 5, 6, 7, 8, 9, 10, 11]),
+        ("P", &[0, 2, 4, 5, 6, 7, 8, 9, 10, 11, 14]),
         ("D", &[0, 2, 4, 7, 8, 9]),
         ("S", &[0, 2, 4, 5, 6, 9, 10, 13]),
         ("L", &[0, 2, 4, 5, 8, 9]),
         ("READ", &[0, 1]),
         ("WRITE", &[0, 1]),
         ("=", &[0, 9, 10]),
+        (";", &[0, 2, 9, 11, 14]),
     ];
     for (word, numbers) in answers {
         for &number in numbers {
@@ -93,13 +97,12 @@ fn every_answer_is_reached() {
             .iter()
             .any(|(w, numbers)| w == word && numbers.contains(number))
     };
-    assert!(counts.keys().all(known), "an answer that no call gives");
+    assert!(COUNTS.keys().all(known), "an answer that no call gives");
 }
 
 /// Every way to meet 13, each with what stands beside it in checking order, and what calls have to pass by; totals at half a cent and beside it.
 #[test]
 fn every_kind_is_reached() {
-    let counts = stats::count(11, 2_000);
     let slice_faults = [
         "no slice",
         "one short",
@@ -114,7 +117,7 @@ fn every_kind_is_reached() {
         "another's number above next",
     ];
     let reached = |word: &str, number: u64, kind: &str| -> u64 {
-        let same = counts
+        let same = COUNTS
             .iter()
             .filter(|((w, n, k), _)| w == word && *n == number && k.contains(kind));
         same.map(|(_, times)| times).sum()
@@ -149,10 +152,9 @@ fn every_kind_is_reached() {
 /// alone, and by the first names of namesakes; and that a look at many rows at once could.
 #[test]
 fn every_kind_of_search_is_reached() {
-    let counts = stats::count(11, 2_000);
     let check = |number: u64, kind: &str, least: u64| {
         let key = ("=".to_string(), number, kind.to_string());
-        let times = counts.get(&key).copied().unwrap_or(0);
+        let times = COUNTS.get(&key).copied().unwrap_or(0);
         assert!(times >= least, "= {number}, {kind}: {times} times");
     };
     for place in 1..=16 {
@@ -180,6 +182,43 @@ fn every_kind_of_search_is_reached() {
     }
 }
 
+/// Payments by the credit and the text that they find, and every way to meet 14, each with what stands beside it in checking order.
+#[test]
+fn every_kind_of_payment_is_reached() {
+    let noted = ["by number", "by name", "at home", "in another district"];
+    let texts = ["bytes lost", "a byte from 128 on", "no space"];
+    let lengths = [
+        "no notes",
+        "a byte short",
+        "a byte long",
+        "a text short",
+        "a text long",
+        "double",
+        "500 x W x C",
+        "5,000 x W x W",
+        "another length",
+        "alone, credit 0",
+        "alone, credit 1",
+    ];
+    let mut kinds = vec![(0, "credit 0".to_string()), (0, "credit 1".to_string())];
+    kinds.extend(
+        noted
+            .iter()
+            .chain(&texts)
+            .map(|k| (0, format!("noted, {k}"))),
+    );
+    kinds.push((0, "noted, at another warehouse".into()));
+    kinds.extend([(2, "and 14".into()), (9, "credit out of range".into())]);
+    kinds.extend([9, 11].map(|number| (number, "credit 1".into())));
+    kinds.extend(lengths.iter().map(|kind| (14, kind.to_string())));
+    kinds.extend((4..=11).map(|number| (14, format!("before {number}"))));
+    for (number, kind) in kinds {
+        let key = (";".to_string(), number, kind);
+        let times = COUNTS.get(&key).copied().unwrap_or(0);
+        assert!(times >= 25, "{key:?}: {times} times");
+    }
+}
+
 #[test]
 fn lists_are_the_same_for_the_same_seed() {
     assert_eq!(lists::list(3, 5), lists::list(3, 5));
@@ -190,8 +229,10 @@ fn lists_are_the_same_for_the_same_seed() {
         let mut lines = text.lines();
         assert!(lines.next().unwrap().starts_with("SLICE nums"));
         assert!(lines.next().unwrap().starts_with("BYTES names "));
-        let sets_last = text.lines().any(|line| line.starts_with("SLICE last"));
-        assert_eq!(sets_last, number >= 60);
+        for slice in ["SLICE last", "BYTES notes "] {
+            let sets = text.lines().any(|line| line.starts_with(slice));
+            assert_eq!(sets, number >= 60);
+        }
     }
 }
 
@@ -388,4 +429,100 @@ fn opened_lists_keep_to_the_tally() {
     let [wrong, right] = counts;
     assert!(right > 300, "{right} opened books");
     assert!(wrong > 5, "{wrong} with last orders not all 0");
+}
+
+/// The payments that were committed since the notes were lent, and what the slices were then.
+struct Noted {
+    layout: Layout,
+    start: Lent,
+    payments: Vec<[u64; 6]>,
+}
+
+impl Noted {
+    /// Nothing where the book is refused by 2 or Payment by 14.
+    fn of(start: &Lent) -> Option<Noted> {
+        let layout = Layout::of(&start.nums, &start.names)?;
+        let fits = start.notes.len() == 5_000 * layout.warehouses * layout.customers;
+        fits.then(|| Noted {
+            layout,
+            start: start.clone(),
+            payments: Vec::new(),
+        })
+    }
+
+    fn add(&mut self, r: &Payment) {
+        let (w, d) = (r.customer_warehouse, r.customer_district);
+        let names = self.layout.names_of(w as usize, d as usize);
+        let Found::Customer(customer) = who::find(&self.start.names[names], &r.who) else {
+            panic!("a payment by nobody");
+        };
+        let paid = [customer as u64, d, w, r.district, r.warehouse, r.amount];
+        self.payments.push(paid);
+    }
+
+    /// With bad credit the text is the first 500 bytes of the customer's notes, newest first, and of what stood there; with good credit that alone.
+    fn check(&self, lent: &Lent) {
+        let mut expected = Vec::new();
+        for w in 1..=self.layout.warehouses {
+            for d in 1..=10 {
+                for c in 1..=self.layout.customers {
+                    expected.extend(self.text(&self.start.notes[expected.len()..], [c, d, w]));
+                }
+            }
+        }
+        assert!(lent.notes == expected);
+    }
+
+    /// A customer's text, which stood at the front of these bytes.
+    fn text(&self, stood: &[u8], place: [usize; 3]) -> Vec<u8> {
+        let [c, d, w] = place;
+        let mut text = Vec::new();
+        if self.start.nums[self.layout.customer(w, d, c).start] == 1 {
+            let mine = self.payments.iter().rev();
+            for paid in mine.filter(|paid| paid[..3] == place.map(|n| n as u64)) {
+                let numbers: Vec<String> = paid.iter().map(u64::to_string).collect();
+                text.extend(format!("{};", numbers.join(" ")).into_bytes());
+            }
+        }
+        text.extend(&stood[..500]);
+        text.truncate(500);
+        text
+    }
+}
+
+/// After each call of any list, on any book: the texts are those of the payments committed since the notes were lent; 14 is answered for no other
+/// reason than the length.
+#[test]
+fn texts_are_the_notes_newest_first() {
+    let (mut noted, mut unnoted) = (0, 0);
+    for number in 0..1_500 {
+        let mut slices = Slices::default();
+        let mut since: Option<Noted> = None;
+        for line in lists::list(29, number).lines() {
+            match parse(line.as_bytes()) {
+                Command::Lend(slice) => {
+                    slices.set(slice);
+                    since = Noted::of(&slices.lent);
+                }
+                Command::Call(request) => {
+                    let before = slices.lent.notes.clone();
+                    let answer = call(&mut slices.lent, &request);
+                    let Some(since) = &mut since else {
+                        assert!(slices.lent.notes == before);
+                        unnoted += u64::from(answer == 14);
+                        continue;
+                    };
+                    assert_ne!(answer, 14);
+                    if let (0, Request::Payment(r)) = (answer, &request) {
+                        since.add(r);
+                        noted += 1;
+                    }
+                    since.check(&slices.lent);
+                }
+                _ => {}
+            }
+        }
+    }
+    assert!(noted > 2_000, "{noted} payments");
+    assert!(unnoted > 400, "{unnoted} refused by 14");
 }

@@ -26,6 +26,7 @@ fn put_fault(case: &mut Case, number: u64) {
         (_, 2) => nums.push(0),
         (_, 9) => nums[district(1, 1)] = 10_000,
         (_, 13) => case.lent.last[last(1, 1, 2)] = -1,
+        (_, 14) => case.lent.notes.truncate(NOTE_BYTES - 1),
         (Request::NewOrder(_), 11) => nums[district(1, 1) + 2] = 4,
         (Request::Payment(_), 11) => nums[5] = 2,
         _ => put_request_fault(&mut case.request, number),
@@ -68,7 +69,7 @@ fn calls() -> [(Request, Vec<u64>); 5] {
     let order_status = Request::OrderStatus(status_of(Who::Number(1)));
     [
         (new_order, vec![2, 4, 5, 6, 7, 8, 9, 13, 11, 12]),
-        (payment, vec![2, 4, 5, 6, 7, 8, 9, 10, 11]),
+        (payment, vec![2, 14, 4, 5, 6, 7, 8, 9, 10, 11]),
         (Request::Delivery(delivery_at(1)), vec![2, 4, 7, 8, 9]),
         (order_status, vec![2, 4, 5, 6, 9, 10, 13]),
         (

@@ -27,16 +27,19 @@ fn fingerprints() {
         nums: vec![1, 2, 3],
         names: b"ALM".to_vec(),
         last: vec![0, 1],
+        notes: b" ;".to_vec(),
     };
-    let text = "nums=1,2,3\nnames=414c4d\nlast=0,1\n";
+    let text = "nums=1,2,3\nnames=414c4d\nlast=0,1\nnotes=203b\n";
     assert_eq!(lent.fingerprint(), of(text));
-    assert_eq!(Lent::default().fingerprint(), of("nums=\nnames=\nlast=\n"));
+    let empty = "nums=\nnames=\nlast=\nnotes=\n";
+    assert_eq!(Lent::default().fingerprint(), of(empty));
     let lent = Lent {
         nums: vec![-1, i64::MIN, 10],
         names: vec![0, 255],
         last: vec![-1],
+        notes: vec![255, 10],
     };
-    let text = "nums=-1,-9223372036854775808,10\nnames=00ff\nlast=-1\n";
+    let text = "nums=-1,-9223372036854775808,10\nnames=00ff\nlast=-1\nnotes=ff0a\n";
     assert_eq!(lent.fingerprint(), of(text));
 }
 
@@ -58,9 +61,11 @@ fn fingerprints_follow_the_slices() {
     let second = open(&mut replay, "BYTES names 414c4d");
     let third = open(&mut replay, "SLICE nums 1 2 3");
     let fourth = open(&mut replay, "SLICE last 0");
+    let fifth = open(&mut replay, "BYTES notes 20");
     assert_ne!(first, second);
     assert_eq!(second, third);
     assert_ne!(third, fourth);
+    assert_ne!(fourth, fifth);
 }
 
 /// Last orders that no command has set are made anew at each head in range; others stay as they are.
@@ -89,13 +94,44 @@ fn last_orders_made_anew() {
     assert_eq!(after("SLICE nums 1 1 1 1 1 0"), (None, vec![]));
 }
 
+/// Notes are made anew in the same way, as spaces, whether or not last orders are set.
+#[test]
+fn notes_made_anew() {
+    let mut engine = SecondEngine;
+    let mut replay = Replay::new(&mut engine);
+    let mut after = |command: &str| {
+        let answer = replay.step(command.as_bytes());
+        (answer, replay.slices.lent.notes.clone())
+    };
+    let bad = Some("BAD BYTES".to_string());
+    assert_eq!(after("BYTES names 41"), (None, vec![]));
+    assert_eq!(after("SLICE nums 1 2 1 1 1"), (None, vec![])); // five numbers
+    assert_eq!(after("SLICE nums 1 3001 1 1 1 0"), (None, vec![]));
+    assert_eq!(after("SLICE nums 1 2 1 1 1 0"), (None, vec![b' '; 10_000]));
+    assert_eq!(after("SLICE last 7"), (None, vec![b' '; 10_000]));
+    assert_eq!(after("SLICE nums 2 3 1 1 1 1"), (None, vec![b' '; 30_000]));
+    assert_eq!(after("BYTES notes 2g"), (bad.clone(), vec![b' '; 30_000]));
+    assert_eq!(after("SLICE nums 1 1 1 1 1 0"), (None, vec![b' '; 5_000]));
+    assert_eq!(after("BYTES notes"), (bad, vec![b' '; 5_000]));
+    assert_eq!(after("BYTES notes 00fF"), (None, vec![0, 255]));
+    assert_eq!(after("SLICE nums 1 1 1 1 1 0"), (None, vec![0, 255]));
+    assert_eq!(after("BYTES notes -"), (None, vec![]));
+    assert_eq!(after("SLICE nums 1 1 1 1 1 0"), (None, vec![]));
+}
+
+/// The commands that lend a book's numbers and names alone.
+fn lend_book(lent: &Lent) -> Vec<String> {
+    let lend = second::lists::lend(lent);
+    lend.lines().take(2).map(String::from).collect()
+}
+
 /// What a call leaves in last orders that no command has set stays until the next book.
 #[test]
 fn last_orders_of_calls() {
     let mut engine = SecondEngine;
     let mut replay = Replay::new(&mut engine);
-    let lend = second::lists::lend(&fresh());
-    for command in lend.lines().filter(|line| !line.starts_with("SLICE last")) {
+    let lend = lend_book(&fresh());
+    for command in &lend {
         replay.step(command.as_bytes());
     }
     let answer = replay.step(b"N 2 3 2 100 1 1 1 1").unwrap();
@@ -105,8 +141,30 @@ fn last_orders_of_calls() {
     assert_eq!(replay.slices.lent.last, expected);
     replay.step(b"SLICE nums 1 1 1 1 1");
     assert_eq!(replay.slices.lent.last, expected);
-    replay.step(lend.lines().next().unwrap().as_bytes());
+    replay.step(lend[0].as_bytes());
     assert_eq!(replay.slices.lent.last, [0; LAST_ORDERS]);
+}
+
+/// So does what a payment leaves in such notes.
+#[test]
+fn notes_of_calls() {
+    let mut engine = SecondEngine;
+    let mut replay = Replay::new(&mut engine);
+    let mut book = fresh();
+    book.nums[customer(2, 3, 2)] = 1;
+    let lend = lend_book(&book);
+    for command in &lend {
+        replay.step(command.as_bytes());
+    }
+    let answer = replay.step(b"P 1 1 2 3 #2 100 500").unwrap();
+    assert!(answer.starts_with("P 0 2 -500 | "));
+    let mut expected = vec![b' '; NOTE_BYTES];
+    expected[text(2, 3, 2)..][..14].copy_from_slice(b"2 3 2 1 1 500;");
+    assert_eq!(replay.slices.lent.notes, expected);
+    replay.step(b"SLICE nums 1 1 1 1 1");
+    assert_eq!(replay.slices.lent.notes, expected);
+    replay.step(lend[0].as_bytes());
+    assert_eq!(replay.slices.lent.notes, [b' '; NOTE_BYTES]);
 }
 
 #[test]
@@ -119,7 +177,7 @@ fn answers_without_a_book() {
 
 #[test]
 fn passed_over() {
-    let text = "LEVEL 3\nLEVEL\nSLICE topup x\nBYTES notes 20\nBYTES buffer -\n\
+    let text = "LEVEL 3\nLEVEL\nSLICE topup x\nBYTES buffer x\nBYTES buffer -\n\
                 QUEUE 0\nQUEUE 1 2 3 4\n\n";
     assert_eq!(replayed(text), [""; 0]);
 }
@@ -139,6 +197,10 @@ const MALFORMED: &[&str] = &[
     "BYTES names 4",
     "BYTES names 4g",
     "BYTES names 41 42",
+    "BYTES notes",
+    "BYTES notes 4",
+    "BYTES notes 4g",
+    "BYTES notes 41 42",
     "OPEN 1",
     "OPENING",
     "open",

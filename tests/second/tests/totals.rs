@@ -6,7 +6,7 @@ use common::*;
 use second::layout::Layout;
 use second::lists::random::Random;
 use second::new_order::{exact_total, total, PARTS};
-use second::replay::Lent;
+use second::replay::{Engine, SecondEngine};
 use second::*;
 
 /// Sum, discount, taxes and the total; exact totals beside half a cent in the comments.
@@ -73,21 +73,20 @@ fn nearest_by_distance() {
 fn once_and_nowhere_else() {
     let mut lent = fresh();
     let layout = Layout::of(&lent.nums, &lent.names).unwrap();
-    let Lent { nums, names, last } = &mut lent;
     let lines = [line(1, 1, 1), line(1, 1, 1), line(1, 1, 1)];
-    let outcome = new_order(nums, names, last, &new_order_of(&lines));
+    let outcome = SecondEngine.new_order(&mut lent, &new_order_of(&lines));
     let figures = NewOrderFigures {
         order: 1,
         total: 311, // 300 x 0.9 x 1.15 = 310.5; three times 103.5 would be 312
     };
     assert_eq!(outcome, Outcome::Committed(figures));
-    let slot = &nums[layout.order(1, 1, 1)];
+    let slot = &lent.nums[layout.order(1, 1, 1)];
     assert_eq!([slot[9], slot[14], slot[19]], [100; 3]);
     let request = Delivery {
         warehouse: 1,
         carrier: 1,
         date: 1,
     };
-    delivery(nums, names, &request);
-    assert_eq!(nums[layout.customer(1, 1, 1)][2], 300);
+    SecondEngine.delivery(&mut lent, &request);
+    assert_eq!(lent.nums[layout.customer(1, 1, 1)][2], 300);
 }

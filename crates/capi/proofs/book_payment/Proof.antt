@@ -25,12 +25,16 @@ payment-balance-requires c κs = search needs
 same-length : tie.Need-same-length
 same-length c = search needs
 
+same-length-2 : tie.Need-same-length-2
+same-length-2 c = search needs
+
 returns : tie.Need-returns
 returns c =
-    rw (← c .before .before .before .before .before .selection .ensures) (record {
-      answers = c .before .payment-out .ensures ∙ ap oneOut (c .before .before .before .payment .ensures .says);
-      balances = c .payment-balance .ensures ∙ ap balanceOut (c .before .before .before .payment .ensures .says);
-      leaves = c .before .before .before .payment .ensures .leaves;
+    rw (← c .before .before .before .before .before .before .before .before .selection .ensures) (record {
+      answers = c .before .payment-out .ensures ∙ ap oneOut (c .before .before .before .before .before .payment .ensures .says);
+      balances = c .payment-balance .ensures ∙ ap balanceOut (c .before .before .before .before .before .payment .ensures .says);
+      leaves = c .before .before .before .before .before .payment .ensures .leaves;
+      writes = c .before .before .before .before .before .payment .ensures .writes;
     })
 
 pub book-payment-spec : {M : Type 1} → statement M
@@ -42,4 +46,5 @@ book-payment-spec =
     payment-out-requires
     payment-balance-requires
     same-length
+    same-length-2
     returns)

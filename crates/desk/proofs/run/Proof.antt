@@ -43,9 +43,12 @@ slice-aggregate-serve-2 c = search needs
 slice-aggregate-serve-3 : tie.Need-slice-aggregate-serve-3
 slice-aggregate-serve-3 c = search needs
 
+slice-aggregate-serve-4 : tie.Need-slice-aggregate-serve-4
+slice-aggregate-serve-4 c = search needs
+
 serve-requires : tie.Need-serve-requires
 serve-requires c κs =
-    (c .before .before .before .before .before .before .before .before .before .before .before .before .fill-numbers .ensures, (c .before .before .before .before .before .before .before .before .before .fill-names .ensures, refl))
+    (c .before .before .before .before .before .before .before .before .before .before .before .before .before .fill-numbers .ensures, (c .before .before .before .before .before .before .before .before .before .before .fill-names .ensures, (refl, refl)))
 
 close-requires : tie.Need-close-requires
 close-requires c κs = search needs
@@ -55,11 +58,11 @@ enum-told-2 c = search needs
 
 returns : tie.Need-returns
 returns c =
-    record { opened = rw (← c .before .before .before .before .before .before .before .before .before .before .before .before .before .before .before .before .before .fill-numbers .ensures, ← c .before .before .before .before .before .before .before .before .before .before .before .before .before .before .fill-names .ensures, ← c .before .before .before .before .before .before .before .before .before .before .opening .ensures .says, c .before .before .before .before .before .before .before .before .enum-told .given .1) }
+    record { opened = rw (← c .before .before .before .before .before .before .before .before .before .before .before .before .before .before .before .before .before .before .before .fill-numbers .ensures, ← c .before .before .before .before .before .before .before .before .before .before .before .before .before .before .before .before .fill-names .ensures, ← c .before .before .before .before .before .before .before .before .before .before .before .before .opening .ensures .says, c .before .before .before .before .before .before .before .before .before .before .enum-told .given .1) }
 
 returns-2 : tie.Need-returns-2
 returns-2 c =
-    record { opened = rw (← c .before .before .before .before .before .before .before .before .before .before .before .before .before .before .before .before .fill-numbers .ensures, ← c .before .before .before .before .before .before .before .before .before .before .before .before .before .fill-names .ensures, ← c .before .before .before .before .before .before .before .before .before .opening .ensures .says, c .before .before .before .before .before .before .before .enum-told .given .1) }
+    record { opened = rw (← c .before .before .before .before .before .before .before .before .before .before .before .before .before .before .before .before .before .before .fill-numbers .ensures, ← c .before .before .before .before .before .before .before .before .before .before .before .before .before .before .before .fill-names .ensures, ← c .before .before .before .before .before .before .before .before .before .before .before .opening .ensures .says, c .before .before .before .before .before .before .before .before .before .enum-told .given .1) }
 
 returns-3 : tie.Need-returns-3
 returns-3 c =
@@ -80,6 +83,7 @@ run-spec =
     slice-aggregate-serve
     slice-aggregate-serve-2
     slice-aggregate-serve-3
+    slice-aggregate-serve-4
     serve-requires
     close-requires
     enum-told-2

@@ -29,7 +29,7 @@ part-carry-out-start c = search needs
 
 part-carry-out-end : tie.Need-part-carry-out-end
 part-carry-out-end c =
-    omega (arith, read-held (c .before .before .before .before .before .before .before .before .before .before .before .before .before .before .before .before .before .args .line .now) (c .before .before .before .before .before .before .before .before .before .before .before .before .read-line .result) (c .before .before .before .before .before .before .before .before .before .before .before .before .read-line .ensures))
+    omega (arith, read-held (c .before .before .before .before .before .before .before .before .before .before .before .before .before .before .before .before .before .before .before .args .line .now) (c .before .before .before .before .before .before .before .before .before .before .before .before .before .read-line .result) (c .before .before .before .before .before .before .before .before .before .before .before .before .before .read-line .ensures))
 
 sub-carry-out-2 : tie.Need-sub-carry-out-2
 sub-carry-out-2 c = search needs
@@ -39,7 +39,7 @@ part-carry-out-start-2 c = search needs
 
 part-carry-out-end-2 : tie.Need-part-carry-out-end-2
 part-carry-out-end-2 c =
-    omega (arith, read-held (c .before .before .before .before .before .before .before .before .before .before .before .before .before .before .before .before .before .before .before .args .line .now) (c .before .before .before .before .before .before .before .before .before .before .before .before .before .before .read-line .result) (c .before .before .before .before .before .before .before .before .before .before .before .before .before .before .read-line .ensures))
+    omega (arith, read-held (c .before .before .before .before .before .before .before .before .before .before .before .before .before .before .before .before .before .before .before .before .before .args .line .now) (c .before .before .before .before .before .before .before .before .before .before .before .before .before .before .before .read-line .result) (c .before .before .before .before .before .before .before .before .before .before .before .before .before .before .before .read-line .ensures))
 
 sub-carry-out-3 : tie.Need-sub-carry-out-3
 sub-carry-out-3 c = search needs
@@ -49,7 +49,7 @@ part-carry-out-start-3 c = search needs
 
 part-carry-out-end-3 : tie.Need-part-carry-out-end-3
 part-carry-out-end-3 c =
-    omega (arith, read-held (c .before .before .before .before .before .before .before .before .before .before .before .before .before .before .before .before .before .before .before .before .before .args .line .now) (c .before .before .before .before .before .before .before .before .before .before .before .before .before .before .before .before .read-line .result) (c .before .before .before .before .before .before .before .before .before .before .before .before .before .before .before .before .read-line .ensures))
+    omega (arith, read-held (c .before .before .before .before .before .before .before .before .before .before .before .before .before .before .before .before .before .before .before .before .before .before .before .args .line .now) (c .before .before .before .before .before .before .before .before .before .before .before .before .before .before .before .before .before .read-line .result) (c .before .before .before .before .before .before .before .before .before .before .before .before .before .before .before .before .before .read-line .ensures))
 
 sub-carry-out-4 : tie.Need-sub-carry-out-4
 sub-carry-out-4 c = search needs
@@ -59,18 +59,18 @@ part-carry-out-start-4 c = search needs
 
 part-carry-out-end-4 : tie.Need-part-carry-out-end-4
 part-carry-out-end-4 c =
-    omega (arith, read-held (c .before .before .before .before .before .before .before .before .before .before .before .before .before .before .before .before .before .before .before .before .before .before .before .args .line .now) (c .before .before .before .before .before .before .before .before .before .before .before .before .before .before .before .before .before .before .read-line .result) (c .before .before .before .before .before .before .before .before .before .before .before .before .before .before .before .before .before .before .read-line .ensures))
+    omega (arith, read-held (c .before .before .before .before .before .before .before .before .before .before .before .before .before .before .before .before .before .before .before .before .before .before .before .before .before .args .line .now) (c .before .before .before .before .before .before .before .before .before .before .before .before .before .before .before .before .before .before .before .read-line .result) (c .before .before .before .before .before .before .before .before .before .before .before .before .before .before .before .before .before .before .before .read-line .ensures))
 
 carry-out-requires : tie.Need-carry-out-requires
 carry-out-requires c κs = search needs
 
 add-to : tie.Need-add-to
 add-to c =
-    omega (arith, c .before .before .before .before .before .carry-out .ensures .within, c .before .before .before .before .before .before .before .before .before .before .before .before .before .before .before .before .before .before .before .before .before .before .before .before .before .before .before .before .before .before .good .0, c .before .before .before .before .before .carry-out .kept .0)
+    omega (arith, c .before .before .before .before .before .before .before .carry-out .ensures .within, c .before .before .before .before .before .before .before .before .before .before .before .before .before .before .before .before .before .before .before .before .before .before .before .before .before .before .before .before .before .before .before .before .before .before .good .0, c .before .before .before .before .before .before .before .carry-out .kept .0)
 
 mul-write-answer : tie.Need-mul-write-answer
 mul-write-answer c =
-    omega (arith, c .before .before .before .before .before .before .carry-out .ensures .within, c .before .before .before .before .before .before .before .before .before .before .before .before .before .before .before .before .before .before .before .before .before .before .before .before .before .before .before .before .before .before .before .good .0, c .before .before .before .before .before .before .carry-out .kept .0)
+    omega (arith, c .before .before .before .before .before .before .before .before .carry-out .ensures .within, c .before .before .before .before .before .before .before .before .before .before .before .before .before .before .before .before .before .before .before .before .before .before .before .before .before .before .before .before .before .before .before .before .before .before .before .good .0, c .before .before .before .before .before .before .before .before .carry-out .kept .0)
 
 sub-write-answer : tie.Need-sub-write-answer
 sub-write-answer c = search needs
@@ -99,12 +99,15 @@ same-length-2 c = search needs
 same-length-3 : tie.Need-same-length-3
 same-length-3 c = search needs
 
-returns-2 : tie.Need-returns-2
-returns-2 c =
-    stepped-read _ _ _ _ _ _ (c .before .before .before .before .before .before .before .before .before .before .before .before .before .before .before .before .before .before .before .before .before .before .before .before .before .before .before .before .before .before .before .before .if1 .left) (c .before .before .before .before .before .before .before .before .before .before .before .before .before .before .before .before .before .before .before .before .before .before .before .before .before .before .before .before .before .before .before .read-line .result) _ (c .before .before .before .before .before .before .before .before .before .before .before .before .before .before .before .before .before .before .before .before .before .before .before .before .before .before .before .before .before .before .before .read-line .ensures) (c .before .before .before .before .before .before .before .before .before .before .before .before .before .before .before .before .before .before .before .before .before .before .before .before .before .before .before .before .before .o .given .1) (c .before .before .before .before .before .before .before .before .before .before .before .carry-out .result) (c .before .before .before .before .before .before .before .before .before .before .before .carry-out .ensures) (c .before .before .write-answer .ensures)
-
 same-length-4 : tie.Need-same-length-4
 same-length-4 c = search needs
+
+returns-2 : tie.Need-returns-2
+returns-2 c =
+    stepped-read _ _ _ _ _ _ (c .before .before .before .before .before .before .before .before .before .before .before .before .before .before .before .before .before .before .before .before .before .before .before .before .before .before .before .before .before .before .before .before .before .before .before .if1 .left) (c .before .before .before .before .before .before .before .before .before .before .before .before .before .before .before .before .before .before .before .before .before .before .before .before .before .before .before .before .before .before .before .before .before .before .read-line .result) _ (c .before .before .before .before .before .before .before .before .before .before .before .before .before .before .before .before .before .before .before .before .before .before .before .before .before .before .before .before .before .before .before .before .before .before .read-line .ensures) (c .before .before .before .before .before .before .before .before .before .before .before .before .before .before .before .before .before .before .before .before .before .before .before .before .before .before .before .before .before .before .before .before .o .given .1) (c .before .before .before .before .before .before .before .before .before .before .before .before .before .carry-out .result) (c .before .before .before .before .before .before .before .before .before .before .before .before .before .carry-out .ensures) (c .before .before .write-answer .ensures)
+
+same-length-5 : tie.Need-same-length-5
+same-length-5 c = search needs
 
 returns-3 : tie.Need-returns-3
 returns-3 c =
@@ -141,6 +144,7 @@ step-spec =
     same-length
     same-length-2
     same-length-3
-    returns-2
     same-length-4
+    returns-2
+    same-length-5
     returns-3)

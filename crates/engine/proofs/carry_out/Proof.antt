@@ -47,38 +47,41 @@ same-length-2 c = search needs
 
 returns : tie.Need-returns
 returns c =
-    rw (c .before .before .before .before .before .before .form .given .1) (c .before .before .new-order .ensures)
+    rw (c .before .before .before .before .before .before .form .given .1) (c .before .before .new-order .ensures (c .before .before .before .before .before .before .before .before .before .before .before .before .before .before .args .notes .now))
 
 same-length-3 : tie.Need-same-length-3
 same-length-3 c = search needs
 
-returns-2 : tie.Need-returns-2
-returns-2 c =
-    rw (c .before .before .before .before .form2 .given .1) (c .before .payment .ensures (c .before .before .before .before .before .before .before .before .before .before .before .args .last .now))
-
 same-length-4 : tie.Need-same-length-4
 same-length-4 c = search needs
 
-returns-3 : tie.Need-returns-3
-returns-3 c =
-    rw (c .before .before .before .before .form3 .given .1) (c .before .delivery .ensures (c .before .before .before .before .before .before .before .before .before .before .before .args .last .now))
+returns-2 : tie.Need-returns-2
+returns-2 c =
+    rw (c .before .before .before .before .before .before .before .form2 .given .1) (c .before .before .before .payment .ensures (c .before .before .before .before .before .before .before .before .before .before .before .before .before .before .before .args .last .now))
 
 same-length-5 : tie.Need-same-length-5
 same-length-5 c = search needs
 
+returns-3 : tie.Need-returns-3
+returns-3 c =
+    rw (c .before .before .before .before .form3 .given .1) (c .before .delivery .ensures (c .before .before .before .before .before .before .before .before .before .before .before .before .args .last .now) (c .before .before .before .before .before .before .before .before .before .before .before .before .args .notes .now))
+
 same-length-6 : tie.Need-same-length-6
 same-length-6 c = search needs
-
-returns-4 : tie.Need-returns-4
-returns-4 c =
-    rw (c .before .before .before .before .form4 .given .1) (c .order-status .ensures)
 
 same-length-7 : tie.Need-same-length-7
 same-length-7 c = search needs
 
+returns-4 : tie.Need-returns-4
+returns-4 c =
+    rw (c .before .before .before .before .form4 .given .1) (c .order-status .ensures (c .before .before .before .before .before .before .before .before .before .before .before .before .args .notes .now))
+
+same-length-8 : tie.Need-same-length-8
+same-length-8 c = search needs
+
 returns-5 : tie.Need-returns-5
 returns-5 c =
-    rw (c .before .before .before .form5 .given .1) (c .stock-level .ensures (c .before .before .before .before .before .before .before .before .before .before .args .last .now))
+    rw (c .before .before .before .form5 .given .1) (c .stock-level .ensures (c .before .before .before .before .before .before .before .before .before .before .before .args .last .now) (c .before .before .before .before .before .before .before .before .before .before .before .args .notes .now))
 
 pub carry-out-spec : {M : Type 1} → statement M
 carry-out-spec =
@@ -98,11 +101,12 @@ carry-out-spec =
     same-length-2
     returns
     same-length-3
-    returns-2
     same-length-4
-    returns-3
+    returns-2
     same-length-5
+    returns-3
     same-length-6
-    returns-4
     same-length-7
+    returns-4
+    same-length-8
     returns-5)

@@ -1,5 +1,5 @@
 use mathlib.Core.Path.{refl}
-use Rattle.model.specs.Request.{answerOf, ordersOf, shownPart, numsAfter, lastAfter}
+use Rattle.model.specs.Request.{answerOf, ordersOf, shownPart, numsAfter, lastAfter, notesAfter}
 use borrow.Author.Needs.{needs}
 use Rattle.engine.proofs.delivery.Statement.{statement}
 use Rattle.engine.proofs.delivery.Tie as tie
@@ -14,8 +14,8 @@ same-length : tie.Need-same-length
 same-length c = search needs
 
 returns : tie.Need-returns
-unfolding answerOf ordersOf shownPart numsAfter lastAfter
-returns c last =
+unfolding answerOf ordersOf shownPart numsAfter lastAfter notesAfter
+returns c last notes =
     record { kind = refl; says = c .before .before .delivery .ensures .says; orders = c .before .before .delivery .ensures .orders; within = search needs; shows = refl; leaves = rw (c .before .before .delivery .ensures .leaves) }
 
 pub delivery-spec : {M : Type 1} → statement M

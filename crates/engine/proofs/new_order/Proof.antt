@@ -1,5 +1,5 @@
 use mathlib.Core.Path.{refl}
-use Rattle.model.specs.Request.{answerOf, ordersOf, shownPart, numsAfter, lastAfter}
+use Rattle.model.specs.Request.{answerOf, ordersOf, shownPart, numsAfter, lastAfter, notesAfter}
 use borrow.Author.Needs.{needs}
 use Rattle.engine.proofs.new_order.Statement.{statement}
 use Rattle.engine.proofs.new_order.Tie as tie
@@ -17,8 +17,8 @@ same-length-2 : tie.Need-same-length-2
 same-length-2 c = search needs
 
 returns : tie.Need-returns
-unfolding answerOf ordersOf shownPart numsAfter lastAfter
-returns c =
+unfolding answerOf ordersOf shownPart numsAfter lastAfter notesAfter
+returns c notes =
     record { kind = refl; says = c .before .before .new-order-split .ensures .says; orders = refl; within = search needs; shows = refl; leaves = rw (c .before .before .new-order-split .ensures .leaves, c .before .before .new-order-split .ensures .notes) }
 
 pub new-order-spec : {M : Type 1} → statement M

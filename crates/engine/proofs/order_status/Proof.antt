@@ -1,5 +1,5 @@
 use mathlib.Core.Path.{refl}
-use Rattle.model.specs.Request.{answerOf, ordersOf, shownPart, numsAfter, lastAfter}
+use Rattle.model.specs.Request.{answerOf, ordersOf, shownPart, numsAfter, lastAfter, notesAfter}
 use borrow.Author.Needs.{needs}
 use Rattle.engine.proofs.order_status.Statement.{statement}
 use Rattle.engine.proofs.order_status.Tie as tie
@@ -11,8 +11,8 @@ status-shown-requires : tie.Need-status-shown-requires
 status-shown-requires c κs = search needs
 
 returns : tie.Need-returns
-unfolding answerOf ordersOf shownPart numsAfter lastAfter
-returns c =
+unfolding answerOf ordersOf shownPart numsAfter lastAfter notesAfter
+returns c notes =
     record { kind = refl; says = c .before .status-shown .ensures .says; orders = refl; within = c .before .status-shown .ensures .within; shows = c .before .status-shown .ensures .shows; leaves = refl }
 
 pub order-status-spec : {M : Type 1} → statement M

@@ -5,10 +5,10 @@ use Rattle.last_orders.proofs.note.Tie as tie
 use Rattle.last_orders.proofs.note.Reads as reads
 use Rattle.last_orders.proofs.note.Lts as lts
 use Rattle.cells.proofs.put.Reads as put-reads
-use Rattle.layout.proofs.last_at.Reads as last-at-reads
+use Rattle.layout.proofs.of_customer.Reads as of-customer-reads
 
-last-at-requires : tie.Need-last-at-requires
-last-at-requires c κs = search needs
+of-customer-requires : tie.Need-of-customer-requires
+of-customer-requires c κs = search needs
 
 put-requires : tie.Need-put-requires
 put-requires c κs = search needs
@@ -18,7 +18,7 @@ same-length c = search needs
 
 returns : tie.Need-returns
 returns c =
-    note-at (c .before .before .before .before .args .d) (c .before .before .before .before .args .last .now) (c .before .before .before .before .args .w) (c .before .before .before .before .args .k) (c .before .before .before .before .args .c) (c .before .before .before .last-at .ensures .0) (c .before .before .before .before .args .order) (c .before .put .ensures)
+    note-at (c .before .before .before .before .args .d) (c .before .before .before .before .args .last .now) (c .before .before .before .before .args .w) (c .before .before .before .before .args .k) (c .before .before .before .before .args .c) (c .before .before .before .of-customer .ensures .0) (c .before .before .before .before .args .order) (c .before .put .ensures)
 
 pub note-spec : {M : Type 1} → statement M
-note-spec = tie.close (tie.spec last-at-requires put-requires same-length returns)
+note-spec = tie.close (tie.spec of-customer-requires put-requires same-length returns)

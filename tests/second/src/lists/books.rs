@@ -1,8 +1,10 @@
 //! Random books: fresh ones, ones in use, and damaged ones.
 
-use super::last;
 use super::random::Random;
-use crate::layout::{customer, order, order_line, Layout, HEAD, HISTORY_COUNT, NAMES_WIDTH};
+use super::{last, notes};
+use crate::layout::{
+    customer, order, order_line, Layout, HEAD, HISTORY_COUNT, NAMES_WIDTH, TEXT_WIDTH,
+};
 use crate::ranges::{self, Range};
 use crate::replay::Lent;
 
@@ -82,6 +84,7 @@ pub fn fresh(random: &mut Random, layout: Layout) -> Book {
     }
     book.lent.nums = nums;
     book.lent.last = vec![0; layout.last_orders()];
+    book.lent.notes = notes::spaces(random, &layout);
     book
 }
 
@@ -109,11 +112,12 @@ pub fn in_use(random: &mut Random, layout: Layout) -> Book {
         }
     }
     book.lent.last = last::scanned(&book.lent.nums, &layout);
+    notes::set_texts(random, &mut book);
     book
 }
 
 /// A book whose favoured district has about as many orders as Stock-Level's window, each
-/// of one line, over many items of which some are low.
+/// of one line, over many items of which some are low. It has no notes.
 pub fn windowed(random: &mut Random) -> Book {
     let mut layout = dimensions(random);
     (layout.warehouses, layout.customers) = (1, layout.customers.min(4));
@@ -134,6 +138,7 @@ pub fn windowed(random: &mut Random) -> Book {
         book.lent.nums[start..start + row.len()].copy_from_slice(&row);
     }
     book.lent.last = last::scanned(&book.lent.nums, &layout);
+    book.lent.notes.clear();
     if random.percent(40) {
         let number = 1 + random.below(next as usize);
         let slot = layout.order(1, district, number.min(layout.order_slots));
@@ -283,11 +288,16 @@ pub fn misfit(random: &mut Random) -> Option<Lent> {
     let rest = if random.percent(50) { 1 } else { 0 };
     nums.resize(numbers.max(6), rest);
     nums[5] = 0;
-    let last = vec![0; names.len() / NAMES_WIDTH];
-    Some(Lent { nums, names, last })
+    let customers = names.len() / NAMES_WIDTH;
+    Some(Lent {
+        nums,
+        names,
+        last: vec![0; customers],
+        notes: vec![b' '; customers * TEXT_WIDTH],
+    })
 }
 
-/// Numbers and names of any length with any values, behind a head that is sometimes sound.
+/// Slices of any length with any values, behind a head that is sometimes sound.
 pub fn chaos(random: &mut Random) -> Lent {
     let mut nums: Vec<i64> = (0..random.below(40)).map(|_| anything(random)).collect();
     for place in 0..nums.len().min(HEAD) {
@@ -295,11 +305,19 @@ pub fn chaos(random: &mut Random) -> Lent {
             nums[place] = random.between(0, 3);
         }
     }
-    let names = (0..random.below(70)).map(|_| random.number() as u8);
-    let names = names.collect();
     let last = (0..random.below(30)).map(|_| anything(random));
-    let last = last.collect();
-    Lent { nums, names, last }
+    Lent {
+        nums,
+        last: last.collect(),
+        names: any_bytes(random, 70),
+        notes: any_bytes(random, 70),
+    }
+}
+
+/// Fewer than so many bytes.
+fn any_bytes(random: &mut Random, most: usize) -> Vec<u8> {
+    let bytes = (0..random.below(most)).map(|_| random.number() as u8);
+    bytes.collect()
 }
 
 /// The ranges of a customer's row, by column.

@@ -4,6 +4,8 @@ pub mod book_lines;
 pub mod books;
 pub mod last;
 pub mod names;
+pub mod notes;
+pub mod paid;
 pub mod random;
 pub mod requests;
 pub mod stats;
@@ -24,8 +26,9 @@ const WINDOWS: [usize; 5] = [25, 0, 5, 10, 60];
 const EACH: [usize; 5] = [20, 20, 20, 20, 20];
 const LAST_ORDERS: [usize; 5] = [40, 4, 4, 48, 4];
 const HISTORY: [usize; 5] = [50, 5, 10, 30, 5];
+const PAYMENTS: [usize; 5] = [4, 84, 4, 4, 4];
 
-/// In so many lists at the start of a run no command sets the last orders: they are made anew with each book.
+/// In so many lists at the start of a run no command sets the last orders or the notes: they are made anew with each book.
 const UNSET: u64 = 60;
 
 /// The list with this number of the run with this seed.
@@ -36,12 +39,12 @@ pub fn list(seed: u64, number: u64) -> String {
         return text;
     }
     let kept = text.split_inclusive('\n');
-    kept.filter(|line| !line.starts_with("SLICE last"))
-        .collect()
+    let made_anew = |line: &&str| line.starts_with("SLICE last") || line.starts_with("BYTES notes");
+    kept.filter(|line| !made_anew(line)).collect()
 }
 
 fn any_list(random: &mut Random) -> String {
-    match random.weighted(&[22, 6, 18, 7, 6, 7, 7, 3, 3, 16, 7, 4, 12, 14]) {
+    match random.weighted(&[22, 6, 18, 7, 6, 7, 7, 3, 3, 16, 7, 4, 12, 17, 12, 8]) {
         0 => opened(random),
         1 => filled(random),
         2 => never_opened(random),
@@ -55,7 +58,9 @@ fn any_list(random: &mut Random) -> String {
         10 => neighbours(random),
         11 => long_history(random),
         12 => half_cents(random),
-        _ => close_names(random),
+        13 => close_names(random),
+        14 => bad_credit(random),
+        _ => wrong_notes(random),
     }
 }
 
@@ -174,7 +179,8 @@ fn windows(random: &mut Random) -> String {
     text
 }
 
-/// Last orders that are wrong, orders that they name damaged; later perhaps the slice as it was at first.
+/// Last orders that are wrong, orders that they name damaged; later perhaps the slice as it was at first. There are no notes, which these calls do not
+/// look at.
 fn last_orders(random: &mut Random) -> String {
     let mut layout = books::dimensions(random);
     if random.percent(60) {
@@ -192,6 +198,7 @@ fn last_orders(random: &mut Random) -> String {
     if random.percent(35) {
         last::damage_order(random, &mut book);
     }
+    book.lent.notes.clear();
     let mut text = lend(&book.lent);
     if new {
         text.push_str("OPEN\n");
@@ -206,7 +213,7 @@ fn last_orders(random: &mut Random) -> String {
     text
 }
 
-/// Last orders refused by 13, and beside it a fault that comes just before or just behind.
+/// Last orders refused by 13, and beside it a fault that comes just before or just behind; no notes.
 fn neighbours(random: &mut Random) -> String {
     let layout = books::dimensions(random);
     let mut book = match random.below(3) {
@@ -215,19 +222,21 @@ fn neighbours(random: &mut Random) -> String {
     };
     last::damage_for_sure(random, &mut book);
     books::damage_beside(random, &mut book);
+    book.lent.notes.clear();
     let mut text = lend(&book.lent);
     let asker = &mut Asker::new(&book, 45);
     ask(random, &mut text, asker, &LAST_ORDERS, 10);
     text
 }
 
-/// An opened book with room for many orders, and their statuses in between.
+/// An opened book with room for many orders, and their statuses in between; no notes.
 fn long_history(random: &mut Random) -> String {
     let mut layout = books::dimensions(random);
     (layout.warehouses, layout.customers) = (1 + random.below(2), 1 + random.below(5));
     layout.items = layout.items.min(20);
     layout.order_slots = 15 + random.below(30);
-    let book = books::fresh(random, layout);
+    let mut book = books::fresh(random, layout);
+    book.lent.notes.clear();
     let mut text = lend(&book.lent);
     text.push_str("OPEN\n");
     let asker = &mut Asker::new(&book, 30);
@@ -261,7 +270,7 @@ fn half_cents(random: &mut Random) -> String {
 /// Searches by name where names are equal in one word of eight bytes, or in all bytes but one, among other calls.
 fn close_names(random: &mut Random) -> String {
     let mut layout = books::crowded(random);
-    let most = *random.pick(&[6, 12, 38]);
+    let most = *random.pick(&[6, 12, 38, 38]);
     layout.customers = 3 + random.below(most);
     layout.history_slots = layout.history_slots.max(20);
     let new = random.percent(60);
@@ -282,6 +291,66 @@ fn close_names(random: &mut Random) -> String {
         ask(random, &mut text, asker, &MIXED, count);
     }
     text
+}
+
+/// Payments to customers with bad credit, most to one whose text fills up; later perhaps notes of another length, or as they were at first.
+fn bad_credit(random: &mut Random) -> String {
+    let layout = notes::dimensions(random);
+    let new = random.percent(50);
+    let mut book = match new {
+        true => books::fresh(random, layout),
+        false => books::in_use(random, layout),
+    };
+    notes::set_credit(random, &mut book);
+    notes::set_texts(random, &mut book);
+    let mut text = lend(&book.lent);
+    if new {
+        text.push_str("OPEN\n");
+    }
+    for _ in 0..*random.pick(&[6, 10, 14, 42]) {
+        pay(random, &mut text, &book, 10);
+        let count = usize::from(random.percent(15));
+        ask(random, &mut text, &mut Asker::new(&book, 30), &MIXED, count);
+    }
+    if random.percent(25) {
+        if random.percent(50) {
+            notes::damage_length(random, &mut book);
+        }
+        text.push_str(&lend_notes(&book.lent));
+        let asker = &mut Asker::new(&book, 30);
+        ask(random, &mut text, asker, &PAYMENTS, 4);
+    }
+    text
+}
+
+/// Notes of a wrong length, and in most lists a fault that Payment meets before or behind it.
+fn wrong_notes(random: &mut Random) -> String {
+    let layout = notes::dimensions(random);
+    let mut book = match random.below(2) {
+        0 => books::fresh(random, layout),
+        _ => books::in_use(random, layout),
+    };
+    notes::damage_length(random, &mut book);
+    match random.below(4) {
+        0 => books::damage_head(random, &mut book),
+        1 | 2 => notes::damage_behind(random, &mut book),
+        _ => {}
+    }
+    let mut text = lend(&book.lent);
+    for _ in 0..6 {
+        pay(random, &mut text, &book, 60);
+        ask(random, &mut text, &mut Asker::new(&book, 45), &PAYMENTS, 1);
+    }
+    text
+}
+
+/// A payment by the favoured customer, in so many of a hundred cases with one fault.
+fn pay(random: &mut Random, text: &mut String, book: &books::Book, faulty: usize) {
+    let mut request = notes::payment(random, book);
+    if random.percent(faulty) {
+        notes::damage_request(random, book, &mut request);
+    }
+    push(text, &Request::Payment(request));
 }
 
 /// Request lines to read and requests to write; the book is not used.
@@ -333,12 +402,18 @@ pub fn lend(lent: &Lent) -> String {
     let mut text = slice("nums", &lent.nums);
     text.push_str(&format!("BYTES names {names}\n"));
     text.push_str(&lend_last(lent));
+    text.push_str(&lend_notes(lent));
     text
 }
 
 /// The command that sets the last orders.
 fn lend_last(lent: &Lent) -> String {
     slice("last", &lent.last)
+}
+
+/// The command that sets the notes.
+fn lend_notes(lent: &Lent) -> String {
+    format!("BYTES notes {}\n", hex::token(&lent.notes))
 }
 
 fn slice(name: &str, numbers: &[i64]) -> String {

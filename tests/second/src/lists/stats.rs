@@ -1,5 +1,6 @@
 //! How often the random lists reach each answer of each call.
 
+use super::paid;
 use super::totals::HALF;
 use crate::checks;
 use crate::layout::{customer, district, Layout, NAMES_WIDTH};
@@ -14,7 +15,7 @@ use crate::Outcome;
 use std::collections::{BTreeMap, BTreeSet};
 
 /// Counts of answers, by word and number and, where it tells more, by kind. Searches by name count once more, by the word `=` and each kind that
-/// they are of.
+/// they are of, and payments by the word `;`.
 pub type Counts = BTreeMap<(String, u64, String), u64>;
 
 /// Runs the lists through the second engine and counts the answers.
@@ -24,12 +25,16 @@ pub fn count(seed: u64, lists: u64) -> Counts {
         let mut engine = SecondEngine;
         let mut replay = Replay::new(&mut engine);
         for line in super::list(seed, number).lines() {
+            let found = replay.slices.lent.clone();
             if let Some(answer) = replay.step(line.as_bytes()) {
                 let lent = &replay.slices.lent;
                 let key = key(&answer, line, lent);
-                for kind in searched(&answer, line, lent) {
-                    let search = ("=".to_string(), key.1, kind);
-                    *counts.entry(search).or_insert(0) += 1;
+                let searches = searched(&answer, line, lent).into_iter();
+                let payments = paid::kinds(key.1, line, &found).into_iter();
+                let kinds = searches.map(|kind| ("=", kind));
+                for (word, kind) in kinds.chain(payments.map(|kind| (";", kind))) {
+                    let once_more = (word.to_string(), key.1, kind);
+                    *counts.entry(once_more).or_insert(0) += 1;
                 }
                 *counts.entry(key).or_insert(0) += 1;
             }

@@ -26,6 +26,7 @@ pub enum Slice {
     Nums(Vec<i64>),
     Names(Vec<u8>),
     Last(Vec<i64>),
+    Notes(Vec<u8>),
 }
 
 /// Reads one command, its end of line cut off.
@@ -45,7 +46,8 @@ fn parse_tokens(tokens: &[&str]) -> Option<Command> {
         ("SLICE", ["nums", values @ ..]) => book_numbers(values).map(lend(Slice::Nums)),
         ("SLICE", ["last", values @ ..]) => book_numbers(values).map(lend(Slice::Last)),
         ("BYTES", ["names", token]) => hex::read(token).map(lend(Slice::Names)),
-        ("BYTES", ["names", ..]) => None,
+        ("BYTES", ["notes", token]) => hex::read(token).map(lend(Slice::Notes)),
+        ("BYTES", ["names" | "notes", ..]) => None,
         ("SLICE" | "BYTES", [_, ..]) | ("LEVEL" | "QUEUE", _) => Some(Command::Nothing),
         ("HELP", []) => Some(Command::Help),
         ("OPEN", []) => Some(Command::Open),

@@ -13,6 +13,8 @@ pub struct Lent {
     pub names: Vec<u8>,
     /// The last order of each customer.
     pub last: Vec<i64>,
+    /// The text of each customer.
+    pub notes: Vec<u8>,
 }
 
 impl Lent {
@@ -25,13 +27,16 @@ impl Lent {
     /// A line for each slice: numbers with commas between, bytes in lower-case hex.
     fn hashed_text(&self) -> Vec<u8> {
         let numbers = self.nums.len() + self.last.len();
-        let mut text = Vec::with_capacity(3 * numbers + 2 * self.names.len() + 24);
+        let bytes = self.names.len() + self.notes.len();
+        let mut text = Vec::with_capacity(3 * numbers + 2 * bytes + 32);
         text.extend_from_slice(b"nums=");
         put_numbers(&mut text, &self.nums);
         text.extend_from_slice(b"\nnames=");
         hex::put(&mut text, &self.names);
         text.extend_from_slice(b"\nlast=");
         put_numbers(&mut text, &self.last);
+        text.extend_from_slice(b"\nnotes=");
+        hex::put(&mut text, &self.notes);
         text.push(b'\n');
         text
     }
@@ -79,7 +84,7 @@ impl Engine for SecondEngine {
     }
 
     fn payment(&mut self, lent: &mut Lent, request: &Payment) -> Outcome<PaymentFigures> {
-        crate::payment(&mut lent.nums, &lent.names, request)
+        crate::payment(&mut lent.nums, &lent.names, &mut lent.notes, request)
     }
 
     fn delivery(&mut self, lent: &mut Lent, request: &Delivery) -> DeliveryAnswer {

@@ -48,8 +48,9 @@ pub fn run(
 #[derive(Default)]
 pub struct Slices {
     pub lent: Lent,
-    /// Has a command set the last orders? They are then never made anew.
+    /// Has a command set the last orders, the notes? They are then never made anew.
     last_set: bool,
+    notes_set: bool,
 }
 
 impl Slices {
@@ -61,13 +62,22 @@ impl Slices {
                 self.lent.last = last;
                 self.last_set = true;
             }
+            Slice::Notes(notes) => {
+                self.lent.notes = notes;
+                self.notes_set = true;
+            }
         }
     }
 
-    /// With a head in range, last orders that no command has set become all 0.
+    /// With a head in range, last orders that no command has set become all 0, and such notes all spaces.
     fn set_nums(&mut self, nums: Vec<i64>) {
-        if let (false, Some(layout)) = (self.last_set, Layout::from_head(&nums)) {
-            self.lent.last = vec![0; layout.last_orders()];
+        if let Some(layout) = Layout::from_head(&nums) {
+            if !self.last_set {
+                self.lent.last = vec![0; layout.last_orders()];
+            }
+            if !self.notes_set {
+                self.lent.notes = vec![b' '; layout.note_bytes()];
+            }
         }
         self.lent.nums = nums;
     }

@@ -2,12 +2,14 @@
 //! W 2, C 2, I 3, O 3, H 2.
 #![allow(dead_code)]
 
+use second::book_program::Book;
 use second::replay::{Engine, Lent, SecondEngine};
 use second::*;
 
 pub const NUMBERS: usize = 5_211;
 pub const NAME_BYTES: usize = 1_280;
 pub const LAST_ORDERS: usize = 40;
+pub const NOTE_BYTES: usize = 20_000;
 
 /// Rows, counted from 1 as the book counts them.
 pub fn warehouse(w: usize) -> usize {
@@ -40,7 +42,12 @@ pub fn last(w: usize, d: usize, c: usize) -> usize {
     2 * (10 * (w - 1) + d - 1) + c - 1
 }
 
-/// A book that opening accepts, its last orders all 0. Customer 1 is ALM, EVA and customer 2 is ALM, BO.
+/// Where a customer's text starts in the notes.
+pub fn text(w: usize, d: usize, c: usize) -> usize {
+    500 * last(w, d, c)
+}
+
+/// A book that opening accepts, its last orders all 0 and its notes spaces. Customer 1 is ALM, EVA and customer 2 is ALM, BO.
 pub fn fresh() -> Lent {
     let mut nums = vec![0; NUMBERS];
     nums[..6].copy_from_slice(&[2, 2, 3, 3, 2, 0]);
@@ -61,8 +68,23 @@ pub fn fresh() -> Lent {
     for first in ["EVA", "BO"].iter().cycle().take(40) {
         names.extend_from_slice(format!("{:16}{:16}", "ALM", first).as_bytes());
     }
-    let last = vec![0; LAST_ORDERS];
-    Lent { nums, names, last }
+    Lent {
+        nums,
+        names,
+        last: vec![0; LAST_ORDERS],
+        notes: vec![b' '; NOTE_BYTES],
+    }
+}
+
+/// The program's book with all that is lent beside it: W 1, C 2, I 5, O 4, H 8.
+pub fn program() -> Lent {
+    let book = Book::built_in();
+    Lent {
+        nums: book.nums,
+        names: book.names,
+        last: book.last,
+        notes: book.notes,
+    }
 }
 
 /// A book with two orders of two lines in each district, both waiting, the second's
@@ -183,4 +205,20 @@ pub fn replayed(text: &str) -> Vec<String> {
     let output = String::from_utf8(output).unwrap();
     let cut = |line: &str| line.split(" | ").next().unwrap().to_string();
     output.lines().map(cut).collect()
+}
+
+/// Commands of the replay format on a book, beside their answers.
+pub fn answers(lent: &Lent, expected: &[(&str, &str)]) {
+    let mut text = lists::lend(lent);
+    for (command, _) in expected {
+        text.push_str(command);
+        text.push('\n');
+    }
+    let said = replayed(&text);
+    let pairs: Vec<(&str, &str)> = expected
+        .iter()
+        .zip(&said)
+        .map(|(&(command, _), answer)| (command, answer.as_str()))
+        .collect();
+    assert_eq!(pairs, expected);
 }

@@ -1,10 +1,10 @@
 use Rattle.layout.proofs.Bounds.{last-is, customer-block}
 use native.Mathlib.Omega.{arith}
 use borrow.Author.Needs.{needs}
-use Rattle.layout.proofs.last_at.Statement.{statement}
-use Rattle.layout.proofs.last_at.Tie as tie
-use Rattle.layout.proofs.last_at.Reads as reads
-use Rattle.layout.proofs.last_at.Lts as lts
+use Rattle.layout.proofs.of_customer.Statement.{statement}
+use Rattle.layout.proofs.of_customer.Tie as tie
+use Rattle.layout.proofs.of_customer.Reads as reads
+use Rattle.layout.proofs.of_customer.Lts as lts
 
 sub-block : tie.Need-sub-block
 sub-block c = search needs
@@ -33,7 +33,7 @@ returns : tie.Need-returns
 returns c =
     omega (arith, last-is (c .before .args .d) (c .before .args .w) (c .before .args .k) (c .before .args .c) (c .before .pre .1 .0) (c .before .pre .1 .1 .0) (c .before .pre .1 .1 .1))
 
-pub last-at-spec : {M : Type 1} → statement M
-last-at-spec =
+pub of-customer-spec : {M : Type 1} → statement M
+of-customer-spec =
     tie.close
     (tie.spec sub-block mul-block sub-block-2 add-block mul-block-2 sub-result add-result returns)
