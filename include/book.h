@@ -6,6 +6,11 @@
    are for given sizes, where each row starts, and what every number may hold. A call judges the slices that it takes, whatever they hold. It is
    committed, carried out whole; or refused by a number, and then changes no number and no byte of them.
 
+   Deliveries may wait their turn in a struct book_queue that the caller owns and lends as well, all 0 when it is new: queuing puts a request behind
+   those that wait, a run takes the oldest, carries it out and writes a line about it to a lent buffer; no other call takes either. Here alone a
+   refused call may change something: a run whose Delivery is refused leaves the book as it was, but the request has left the list and its line is
+   written. Refused by 16, which is no refusal of the Delivery, a run changes nothing at all.
+
    Two layers. A `struct book` with a request struct goes to a small inline function, and a struct with named fields comes back:
 
        struct book_pay_answer paid = book_pay(&book, &request);
@@ -17,16 +22,18 @@
 
    Memory.
    - NULL goes with length 0, for every slice: an empty book is refused by 2, an order without lines by 8, an empty last name by 10, New-Order
-     and Order-Status without the last orders by 13, Payment without the notes by 14. Everything else that is handed over by a pointer is not
-     NULL; an array that a flat function fills has the length that its type says.
-   - Slices that are only read may overlap. A slice or array that a call writes (numbers, last orders in New-Order, notes in Payment, a buffer,
+     and Order-Status without the last orders by 13, Payment without the notes by 14, a run without a buffer by 16. Everything else that is handed
+     over by a pointer is not NULL; an array that a flat function fills has the length that its type says.
+   - Slices that are only read may overlap. What a call writes (numbers, last orders in New-Order, notes in Payment, a waiting list, a buffer,
      what comes out) must not overlap with anything else lent to that call.
    - The library keeps nothing between calls, has no global state, allocates nothing and writes no file.
-   - Threads: one writer a book, its last orders and notes included. While book_order, book_pay or book_deliver runs on a book, no other call
-     may run on it; the calls that only read may run side by side. Different books do not know of each other.
+   - Threads: one writer a book, its last orders and notes included. While book_order, book_pay, book_deliver or book_deliver_next runs on a
+     book, no other call may run on it; the calls that only read may run side by side. Different books do not know of each other. One call at a
+     time on a waiting list: book_deliver_later takes no book and may run beside calls on any, but not beside another call on the same list.
    - A crash inside a call (the process killed, the power gone) can leave a half-written book, or last orders or notes that do not go with it,
-     where their memory outlives the process, as in a mapped file: the stores of a call are not one step of the machine. Keep a copy of all four
-     slices, or the list of requests, from before the call. */
+     where their memory outlives the process, as in a mapped file: the stores of a call are not one step of the machine. A waiting list can be
+     half-written too, or have lost a request that was not carried out, or still have one that was. Keep a copy of all four slices and the waiting
+     list, or the list of requests, from before the call. */
 #ifndef BOOK_H
 #define BOOK_H
 
@@ -37,11 +44,11 @@
 
 /* The version of this header, and what book_version() of the library answers: it rises whenever a function, a struct or a refusal here changes.
    Where the shared library is loaded, refuse to start unless book_version() == BOOK_VERSION; its soname has the number as well. */
-#define BOOK_VERSION 3
+#define BOOK_VERSION 4
 
 /* What a call answers first: 0, or the first number of this list that fits, in the list's order but that New-Order looks at 13 before 11 and 12,
-   and Payment at 14 straight after 2. The detail is the place (from 1) of the first offending line of an order at 8 and 12, and 0 otherwise, also
-   where the number of lines itself offends. */
+   Payment at 14 straight after 2, queuing at 15 before 7, and a run at 16 before all others. The detail is the place (from 1) of the first
+   offending line of an order at 8 and 12, and 0 otherwise, also where the number of lines itself offends. */
 enum book_refusal {
     BOOK_COMMITTED = 0,
     BOOK_NO_FORM = 1,      /* a text line has no form; in writing, the request has none or the buffer is shorter than its line */
@@ -58,10 +65,13 @@ enum book_refusal {
     BOOK_NO_ITEM = 12,     /* a line's item is not 1 to I, or its price is 0 */
     BOOK_BAD_LAST = 13,    /* New-Order, Order-Status: the last orders' length is not 10 * W * C, a number of the call's district is not 0 to next
                               order number - 1, or (Order-Status) the order to be shown holds a value out of range */
-    BOOK_BAD_NOTES = 14    /* Payment: the notes' length is not 5,000 * W * C; their bytes are not judged */
+    BOOK_BAD_NOTES = 14,   /* Payment: the notes' length is not 5,000 * W * C; their bytes are not judged */
+    BOOK_QUEUE_FULL = 15,  /* queuing: 16 Deliveries wait, or the waiting list counts more than that */
+    BOOK_NOT_RUN = 16      /* a run: no Delivery waits, the waiting list counts more than 16, or the buffer has fewer than 400 bytes; nothing was
+                              taken off the list */
 };
 
-/* All that is lent: the numbers, the name bytes, the last orders and the notes, each with its length. */
+/* All that is lent but a waiting list: the numbers, the name bytes, the last orders and the notes, each with its length. */
 struct book {
     int64_t *nums;
     size_t nums_len;
@@ -88,6 +98,23 @@ struct book_line {
     uint64_t item;
     uint64_t supply;
     uint64_t quantity;
+};
+
+#define BOOK_WAITING_PLACES 16 /* so many Deliveries may wait */
+#define BOOK_RESULT_BYTES 400  /* the least room for a run's line, which never fills it */
+
+/* A Delivery that waits: the date of its queuing, then the request. */
+struct book_waiting {
+    uint64_t date;
+    uint64_t warehouse;
+    uint64_t carrier;
+};
+
+/* The waiting list: how many wait, then the places, the oldest first; a place that a run frees is 0. All 0, as memset makes it, nobody waits. It may
+   hold anything: the calls judge its count, and a run the oldest request, as Delivery does; the date of queuing is printed as it stands. */
+struct book_queue {
+    uint64_t count;
+    struct book_waiting waiting[BOOK_WAITING_PLACES];
 };
 
 struct book_order_request {
@@ -157,6 +184,13 @@ struct book_deliver_answer {
     uint64_t skipped;
     uint64_t mark;
     uint64_t orders[10];
+};
+
+/* How many Deliveries stood before the one that was queued: so many runs come before its own, those refused by 16 not counted. */
+struct book_later_answer {
+    uint64_t refusal;
+    uint64_t detail;
+    uint64_t before;
 };
 
 /* The customer, the balance, and the customer's last order, the one that the last orders name, whoever its customer is: its number, entry date
@@ -241,6 +275,20 @@ void book_payment(int64_t *nums, size_t nums_len, const uint8_t *names, size_t n
 /* Delivery. out: refusal, detail, skip count, mark (bit d - 1 is district d skipped); orders[d - 1]: the order of district d, 0 where skipped. */
 void book_delivery(int64_t *nums, size_t nums_len, const uint8_t *names, size_t names_len, uint64_t warehouse, uint64_t carrier,
                    uint64_t date, uint64_t out[4], uint64_t orders[10]);
+
+/* Queues a Delivery: date, warehouse and carrier are put as they are given to the first free place of the list, and its count is one more. The date
+   is the day of queuing, 1 to 6,342,969,600; warehouse and carrier are judged by the run alone. Refused by 15 and 7 only. out: refusal, detail, how
+   many stood before it. */
+void book_queue_delivery(struct book_queue *queue, uint64_t warehouse, uint64_t carrier, uint64_t date, uint64_t out[3]);
+
+/* Runs the oldest Delivery of the list, on the date given, that of the run. Refused by 16 it changes nothing. Otherwise it does to the book what
+   book_delivery of this request on this date does, refusals too, and answers the same; and whatever that is, the request leaves the list (the
+   others move one place forward, the place that becomes free is 0) and one line is written to the front of the buffer, whose other bytes stay. The
+   line: date of queuing, warehouse, carrier, date of the run, then skip count and the ten order numbers or, where the Delivery was refused, the
+   number of its refusal alone; decimal, a tab between two, byte 10 at the end. out: refusal, detail, skip count, mark; orders[d - 1]: the order of
+   district d, 0 where skipped. */
+void book_run_delivery(int64_t *nums, size_t nums_len, const uint8_t *names, size_t names_len, struct book_queue *queue, uint64_t date,
+                       uint8_t *buffer, size_t buffer_len, uint64_t out[4], uint64_t orders[10]);
 
 /* Order-Status, with the order that last names. out: refusal, detail, customer, order, date, carrier, then where in nums the order's lines start
    and how many numbers they are, five a line (item, supplying warehouse, quantity, amount, delivery date); 0, 0 where there is none. balance[0]:
@@ -363,6 +411,33 @@ static inline struct book_deliver_answer book_deliver(struct book *book, const s
     uint64_t out[4];
     struct book_deliver_answer a;
     book_delivery(book->nums, book->nums_len, book->names, book->names_len, q->warehouse, q->carrier, q->date, out, a.orders);
+    a.refusal = out[0];
+    a.detail = out[1];
+    a.skipped = out[2];
+    a.mark = out[3];
+    return a;
+}
+
+/* Queues the request on its date; book_deliver_next carries it out in its turn, on a date of its own. */
+static inline struct book_later_answer book_deliver_later(struct book_queue *queue, const struct book_deliver_request *q)
+{
+    uint64_t out[3];
+    struct book_later_answer a;
+    book_queue_delivery(queue, q->warehouse, q->carrier, q->date, out);
+    a.refusal = out[0];
+    a.detail = out[1];
+    a.before = out[2];
+    return a;
+}
+
+/* Runs the oldest Delivery that waits and answers as it does. Unless refused by 16, the buffer has its line, up to the first byte 10, and the list
+   one request less, also where the Delivery was refused. */
+static inline struct book_deliver_answer book_deliver_next(struct book *book, struct book_queue *queue, uint64_t date, uint8_t *buffer,
+                                                           size_t buffer_len)
+{
+    uint64_t out[4];
+    struct book_deliver_answer a;
+    book_run_delivery(book->nums, book->nums_len, book->names, book->names_len, queue, date, buffer, buffer_len, out, a.orders);
     a.refusal = out[0];
     a.detail = out[1];
     a.skipped = out[2];

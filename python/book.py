@@ -1,10 +1,10 @@
 """The order book for feed cooperatives, from Python: the proved library over ctypes, nothing else.
 
 `bin/build library` of the repository makes the shared library that this module loads (or name one in BOOK_LIBRARY). x86-64 Linux only.
-A Book owns its numbers, its names, its last orders and its notes. Every call is committed and answers its figures, or raises Refused and has
-changed nothing. One call at a time runs on a Book, also from threads: it has a lock. To keep a book, write b.nums, b.names, b.last and b.notes to
-a file; to have it back, make a Book of the same sizes and read them into it (file.readinto); it is not opened again, since opening is for a new
-book.
+A Book owns its numbers, its names, its last orders, its notes and its waiting list of Deliveries. Every call is committed and answers its figures,
+or raises Refused and has changed nothing; but a run whose Delivery is refused takes it off the waiting list all the same (see run_delivery). One
+call at a time runs on a Book, also from threads: it has a lock. To keep a book, write b.nums, b.names, b.last, b.notes and b.queue to a file; to
+have it back, make a Book of the same sizes and read them into it (file.readinto); it is not opened again, since opening is for a new book.
 """
 
 import ctypes
@@ -13,7 +13,7 @@ import os
 import threading
 from typing import List, NamedTuple, Union
 
-VERSION = 3  # BOOK_VERSION of include/book.h
+VERSION = 4  # BOOK_VERSION of include/book.h
 
 _path = os.environ.get("BOOK_LIBRARY") or os.path.join(
     os.path.dirname(os.path.dirname(os.path.realpath(__file__))), "target", "shared", "libbook.so"
@@ -41,16 +41,22 @@ REFUSALS = {
     12: "an item is not one of the book's, or its price is 0",
     13: "the last orders have a wrong length or, in the district, a number out of range, or the order to be shown is out of range",
     14: "the notes have a wrong length",
+    15: "sixteen Deliveries wait, or the waiting list counts more",
+    16: "no Delivery waits, the waiting list counts more than 16, or the buffer has under 400 bytes",
 }
 
 
 class Refused(Exception):
-    """The refusal's number, and its detail: the first offending line of an order at 8 and 12, else 0."""
+    """The refusal's number, and its detail: the first offending line of an order at 8 and 12, else 0.
 
-    def __init__(self, number, detail):
-        super().__init__(number, detail)
+    Of a run whose Delivery was refused, line is its result line; else it is None.
+    """
+
+    def __init__(self, number, detail, line=None):
+        super().__init__(number, detail, line)
         self.number = number
         self.detail = detail
+        self.line = line
 
     def __str__(self):
         return f"{self.number}: {REFUSALS.get(self.number, '?')}" + (f" (line {self.detail})" if self.detail else "")
@@ -116,6 +122,18 @@ class Paid(NamedTuple):
 class Delivered(NamedTuple):
     skipped: int
     orders: List[int]  # of districts 1 to 10, 0 where skipped
+
+
+class Ran(NamedTuple):
+    skipped: int
+    orders: List[int]  # of districts 1 to 10, 0 where skipped
+    line: bytes  # queuing date, warehouse, carrier, date of the run, skip count and orders, parted by tabs; byte 10
+
+
+class Waiting(NamedTuple):
+    date: int  # of the queuing
+    warehouse: int
+    carrier: int
 
 
 class ShownLine(NamedTuple):
@@ -196,6 +214,17 @@ class _CLine(ctypes.Structure):
     _fields_ = [("item", ctypes.c_uint64), ("supply", ctypes.c_uint64), ("quantity", ctypes.c_uint64)]
 
 
+class _CWaiting(ctypes.Structure):
+    _fields_ = [("date", ctypes.c_uint64), ("warehouse", ctypes.c_uint64), ("carrier", ctypes.c_uint64)]
+
+
+class _CQueue(ctypes.Structure):
+    _fields_ = [("count", ctypes.c_uint64), ("waiting", _CWaiting * 16)]
+
+
+_RESULT_BYTES = 400  # the least room for a run's line
+
+
 def _u64(name, value):
     try:
         value = operator.index(value)
@@ -246,6 +275,11 @@ def _places(sizes, warehouse=1, district=1, customer=1, item=1, order=1, history
         raise ValueError(f"{places} is no place of a book of {sizes}, or these are no sizes of a book") from None
 
 
+def _result_line(buffer):
+    """The line at a buffer's front, its byte 10 included."""
+    return bytes(buffer).partition(b"\n")[0] + b"\n"
+
+
 def _padded(part):
     return (part.encode() if isinstance(part, str) else bytes(part)).ljust(16)
 
@@ -255,7 +289,8 @@ class Book:
 
     nums, names, last and notes are ctypes arrays, lent to the calls as they are. last has for each customer its largest order number, 0 for none:
     new_order writes it, order_status reads it, the other calls do not take it. notes has for each customer a text of 500 bytes, spaces at first:
-    payment puts a note at its left where the customer's credit is 1, the other calls do not take it.
+    payment puts a note at its left where the customer's credit is 1, the other calls do not take it. queue is a ctypes structure, the count and 16
+    places of the Deliveries that wait: queue_delivery and run_delivery alone take it.
     """
 
     def __init__(self, sizes):
@@ -266,6 +301,7 @@ class Book:
         customers = name_bytes // _NAME_BYTES
         self.last = (ctypes.c_int64 * customers)()
         self.notes = (ctypes.c_uint8 * (customers * _NOTE_BYTES))()
+        self.queue = _CQueue()
         self._lock = threading.Lock()
         ctypes.memset(self.names, ord(" "), len(self.names))
         ctypes.memset(self.notes, ord(" "), len(self.notes))
@@ -316,6 +352,10 @@ class Book:
         at = self._customers_before(warehouse, district, customer) * _NOTE_BYTES
         return bytes(self.notes[at : at + _NOTE_BYTES])
 
+    def waiting(self):
+        """The Deliveries that wait, the oldest first, as queue has them."""
+        return [Waiting(w.date, w.warehouse, w.carrier) for w in self.queue.waiting[: self.queue.count]]
+
     # The calls
 
     def _call(self, call, parameters, figures, *others):
@@ -342,6 +382,30 @@ class Book:
         orders = (ctypes.c_uint64 * 10)()
         skipped, _ = self._call(_lib.book_delivery, _numbers(warehouse=warehouse, carrier=carrier, date=date), 2, orders)
         return Delivered(skipped, list(orders))
+
+    def queue_delivery(self, warehouse, carrier, date):
+        """Puts a Delivery behind those that wait, to be run later; how many stood before it. The date is that of the queuing.
+
+        Warehouse and carrier are judged by the run alone.
+        """
+        queued = [ctypes.byref(self.queue)] + _numbers(warehouse=warehouse, carrier=carrier, date=date)
+        with self._lock:
+            return _answer(_lib.book_queue_delivery, queued, 1)[0]
+
+    def run_delivery(self, date):
+        """Carries out the oldest Delivery that waits, on this date. Refused by 16 where none does, it has changed nothing.
+
+        Refused by another number, that of the Delivery, it has not changed the book, but the request has left the list; the exception has its line.
+        """
+        orders, buffer = (ctypes.c_uint64 * 10)(), (ctypes.c_uint8 * _RESULT_BYTES)()
+        run = [ctypes.byref(self.queue)] + _numbers(date=date) + _slice(buffer)
+        try:
+            skipped, _ = self._call(_lib.book_run_delivery, run, 2, orders)
+        except Refused as refused:
+            if refused.number == 16:
+                raise
+            raise Refused(refused.number, refused.detail, _result_line(buffer)) from None
+        return Ran(skipped, list(orders), _result_line(buffer))
 
     def order_status(self, warehouse, district, who):
         balance = (ctypes.c_int64 * 1)()

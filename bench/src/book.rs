@@ -3,6 +3,7 @@
 use second::layout::{order, order_line, Layout};
 use second::lists::last;
 use second::lists::random::Random;
+use second::queue::RESULT_BYTES;
 use second::replay::Lent;
 
 const DISTRICTS: usize = 10;
@@ -86,7 +87,9 @@ pub fn make(size: &Size) -> Lent {
         last: last::scanned(&nums, &layout),
         names: names(random, size),
         notes: vec![b' '; layout.note_bytes()],
+        buffer: vec![b' '; RESULT_BYTES],
         nums,
+        ..Lent::default()
     }
 }
 

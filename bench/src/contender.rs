@@ -1,7 +1,7 @@
 //! Whoever carries out requests, and what it answers as a row of numbers.
 
 use second::replay::{Engine, Lent};
-use second::{Outcome, Request};
+use second::{Delivery, DeliveryAnswer, Outcome, Request};
 
 /// Takes the numbers of answers in turn.
 pub trait Sink {
@@ -88,6 +88,37 @@ fn put_figures<F, const N: usize>(
     put_all(sink, committed.map(figures).iter().flatten());
 }
 
+fn put_delivery(sink: &mut impl Sink, answer: &DeliveryAnswer) {
+    put_figures(sink, answer.outcome, |f| {
+        [f.skip_count as i64, f.skip_mark as i64]
+    });
+    let orders = answer.orders.iter();
+    orders.for_each(|&order| sink.put(order as i64));
+}
+
+impl<E: Engine> InBook<E> {
+    /// Each Delivery in turn, at once; the digest of the answers.
+    pub fn at_once(&mut self, requests: &[Delivery]) -> u64 {
+        let mut digest = Digest::new();
+        for request in requests {
+            put_delivery(&mut digest, &self.engine.delivery(&mut self.lent, request));
+        }
+        digest.sum
+    }
+
+    /// Each Delivery in turn, queued and then run on the same date; the digest of what the runs answer.
+    pub fn queued_and_run(&mut self, requests: &[Delivery]) -> u64 {
+        let mut digest = Digest::new();
+        for request in requests {
+            let queued = self.engine.queue_delivery(&mut self.lent, request);
+            assert!(matches!(queued, Outcome::Committed(_)), "no room to wait");
+            let answer = self.engine.run_delivery(&mut self.lent, request.date);
+            put_delivery(&mut digest, &answer);
+        }
+        digest.sum
+    }
+}
+
 pub fn put_all<'a>(sink: &mut impl Sink, numbers: impl Iterator<Item = &'a i64>) {
     numbers.for_each(|&number| sink.put(number));
 }
@@ -104,14 +135,7 @@ impl<E: Engine> Contender for InBook<E> {
                 put_figures(sink, outcome, |f| [f.customer as i64, f.balance]);
             }
             Request::Delivery(r) => {
-                let answer = self.engine.delivery(&mut self.lent, r);
-                put_figures(sink, answer.outcome, |f| {
-                    [f.skip_count as i64, f.skip_mark as i64]
-                });
-                answer
-                    .orders
-                    .iter()
-                    .for_each(|&order| sink.put(order as i64));
+                put_delivery(sink, &self.engine.delivery(&mut self.lent, r));
             }
             Request::OrderStatus(r) => {
                 let answer = self.engine.order_status(&self.lent, r);

@@ -50,7 +50,9 @@ fn measured(most: usize) -> (&'static str, measure::Measured) {
     tables::passes(&books);
     tables::searches(&books);
     tables::notes(&books);
-    tables::missed(&books);
+    let waiting = measure::waiting(256);
+    tables::waiting(&books, &waiting);
+    tables::missed(&books, &waiting);
     books.pop().expect("a book")
 }
 

@@ -9,10 +9,11 @@ use crate::sums;
 use proved::ProvedEngine;
 use second::layout::{Layout, HISTORY_COUNT};
 use second::lists::random::Random;
+use second::queue::PLACES;
 use second::replay::{Engine, Lent, SecondEngine};
-use second::{OrderStatus, Request, Who};
+use second::{Delivery, OrderStatus, Request, Who};
 use std::hint::black_box;
-use std::mem::swap;
+use std::mem::{swap, take};
 use std::time::Instant;
 
 /// Microseconds a call, the median of the rounds; and the proved library's time as a multiple of each other one's, the median of
@@ -43,8 +44,18 @@ pub struct Measured {
     pub pass: Step,
     /// The search for a last name: proved, second engine, plain sum.
     pub search: Step,
+    /// A Delivery queued and run: proved, the proved library's plain Delivery, second engine.
+    pub run: Step,
     /// The note of a payment with credit 1: proved, second engine.
     pub note: Step,
+}
+
+/// What waiting takes, whatever the book: proved, second engine.
+pub struct Waiting {
+    /// The queuing alone.
+    pub queuing: Step,
+    /// A Delivery queued and run less a plain one.
+    pub added: Step,
 }
 
 const CONTENDERS: usize = 4;
@@ -105,6 +116,24 @@ impl Field {
         );
     }
 
+    /// Microseconds a Delivery: queued and run by the proved library, plain by it on the third book, queued and run by the second engine; and the
+    /// digest of its answers.
+    fn time_deliveries(&mut self, which: usize, requests: &[Delivery]) -> (f64, u64) {
+        let mut plain = InBook {
+            engine: ProvedEngine,
+            lent: take(&mut self.summed.lent),
+        };
+        let start = Instant::now();
+        let digest = match which {
+            0 => self.engines.proved.queued_and_run(requests),
+            1 => plain.at_once(requests),
+            _ => self.engines.second.queued_and_run(requests),
+        };
+        let spent = start.elapsed().as_secs_f64() * 1e6 / requests.len() as f64;
+        self.summed.lent = plain.lent;
+        (spent, black_box(digest))
+    }
+
     /// Deals out the books, which are the same between rounds, so that no contender keeps the better memory or the warmest.
     fn deal(&mut self, random: &mut Random) {
         let Engines { proved, second, .. } = &mut self.engines;
@@ -116,7 +145,7 @@ impl Field {
     }
 }
 
-/// One row for each call, the pass, the search and the note; each has its rounds divided by `fewer`.
+/// One row for each call, the pass, the search, Deliveries queued and run and the note; each has its rounds divided by `fewer`.
 pub fn book(size: &Size, fewer: usize) -> Measured {
     let mut field = Field::on(book::make(size), size.layout());
     let mut asker = Asker::new(size, &field.summed.lent, 2);
@@ -135,11 +164,13 @@ pub fn book(size: &Size, fewer: usize) -> Measured {
     );
     let pass = pass(&mut field, &mut asker, 64 / fewer);
     let search = search(&mut field, &mut asker, 256 / fewer);
+    let run = run(&mut field, &mut asker, 192 / fewer);
     let note = note(&mut field, &mut asker, 64 / fewer);
     Measured {
         rows,
         pass,
         search,
+        run,
         note,
     }
 }
@@ -197,6 +228,68 @@ fn search(field: &mut Field, asker: &mut Asker, rounds: usize) -> Step {
             _ => looked_at(requests, |r| sums::last_names(black_box(lent), layout, r)),
         }
     })
+}
+
+/// Deliveries queued and run, and plain ones, on books that are the same between rounds and dealt out anew after each.
+fn run(field: &mut Field, asker: &mut Asker, rounds: usize) -> Step {
+    const TIMED: usize = 3;
+    let batches: Vec<_> = (0..rounds).map(|_| deliveries(asker, 2)).collect();
+    let mut random = Random::new(3);
+    let mut digests = Vec::new();
+    step(rounds, TIMED, |round, which| {
+        let requests = &batches[round];
+        let (spent, digest) = field.time_deliveries(which, requests);
+        digests.push(digest);
+        if digests.len() == TIMED {
+            assert!(
+                digests.iter().all(|&other| other == digest),
+                "other answers"
+            );
+            digests.clear();
+            field.deal(&mut random);
+        }
+        spent
+    })
+}
+
+/// Requests for Deliveries.
+fn deliveries(asker: &mut Asker, count: usize) -> Vec<Delivery> {
+    let requests = asker.batch(Call::Delivery, count).into_iter();
+    let delivery = |request| match request {
+        Request::Delivery(r) => r,
+        other => panic!("{other:?} is no Delivery"),
+    };
+    requests.map(delivery).collect()
+}
+
+/// What waiting takes, on the smallest book: it has no orders, so that every Delivery leaves it as it was.
+pub fn waiting(rounds: usize) -> Waiting {
+    let size = Size {
+        warehouses: 1,
+        customers: 1,
+        items: 1,
+        order_slots: 1,
+        history_slots: 1,
+        orders: 0,
+        histories: 0,
+    };
+    let lent = book::make(&size);
+    let batch = deliveries(&mut Asker::new(&size, &lent, 2), PLACES);
+    let Engines {
+        mut proved,
+        mut second,
+        ..
+    } = Engines::on(&lent, &size.layout());
+    Waiting {
+        queuing: step(rounds, 2, |_, which| match which {
+            0 => own_queuing(&mut proved, &batch),
+            _ => own_queuing(&mut second, &batch),
+        }),
+        added: step(rounds, 2, |_, which| match which {
+            0 => own_waiting(&mut proved, &batch),
+            _ => own_waiting(&mut second, &batch),
+        }),
+    }
 }
 
 /// The note of a payment with credit 1, on as many payments of either credit.
@@ -279,6 +372,38 @@ fn own_note<E: Engine>(book: &mut InBook<E>, [good, bad]: &[Vec<Request>; 2]) ->
     let committed = book.lent.nums[HISTORY_COUNT] - before;
     assert_eq!(committed as usize, 2 * (good.len() + bad.len()));
     spent
+}
+
+/// How often a batch is carried out where a call takes no more than some nanoseconds.
+const TURNS: usize = 64;
+
+/// Microseconds of queuing as many Deliveries as may wait, over and over, after a turn that is not timed.
+fn own_queuing<E: Engine>(book: &mut InBook<E>, requests: &[Delivery]) -> f64 {
+    turned(requests, || {
+        book.lent.queue.count = 0;
+        for request in requests {
+            black_box(book.engine.queue_delivery(&mut book.lent, request));
+        }
+        assert_eq!(book.lent.queue.count as usize, requests.len());
+        book.lent.queue.count = 0;
+    })
+}
+
+/// Microseconds that queuing and running take beside the Delivery itself.
+fn own_waiting<E: Engine>(book: &mut InBook<E>, requests: &[Delivery]) -> f64 {
+    let later = turned(requests, || {
+        black_box(book.queued_and_run(requests));
+    });
+    let at_once = turned(requests, || {
+        black_box(book.at_once(requests));
+    });
+    later - at_once
+}
+
+/// Microseconds for each request where all are carried out over and over, after as many turns that are not timed.
+fn turned(requests: &[Delivery], mut turn: impl FnMut()) -> f64 {
+    (0..TURNS).for_each(|_| turn());
+    micros(TURNS * requests.len(), || (0..TURNS).for_each(|_| turn()))
 }
 
 /// Microseconds a request of an engine, after a turn that is not timed.

@@ -1,6 +1,6 @@
 /* The headers tried as a caller would: the layout against the proved `layout`, the ranges against opening and the calls, the columns against what the
-   calls write, the last orders and the notes by what is refused and written, the calls on a struct book against the flat functions, NULL with length
-   0. Compiles as C99 and as C++11. */
+   calls write, the last orders, the notes and the waiting list by what is refused and written, the calls on a struct book against the flat functions,
+   NULL with length 0. Compiles as C99 and as C++11. */
 #include <stdio.h>
 #include <stdlib.h>
 #include "book.h"
@@ -531,6 +531,151 @@ static void notes_moved(void)
     see(memcmp(saved_notes, notes, sizeof notes) == 0, "a refused payment puts no note");
 }
 
+/* ---- Deliveries that wait ---- */
+
+static struct book_deliver_request deliver_of(uint64_t w, uint64_t carrier, uint64_t date)
+{
+    struct book_deliver_request q;
+    memset(&q, 0, sizeof q);
+    q.warehouse = w, q.carrier = carrier, q.date = date;
+    return q;
+}
+
+/* A list of this count whose places all hold something. */
+static struct book_queue queue_of(uint64_t count)
+{
+    struct book_queue queue;
+    queue.count = count;
+    for (uint64_t k = 0; k < BOOK_WAITING_PLACES; k++)
+        queue.waiting[k].date = 100 + k, queue.waiting[k].warehouse = 1 + k % 2, queue.waiting[k].carrier = 1 + k % 10;
+    return queue;
+}
+
+static bool same_queue(const struct book_queue *a, const struct book_queue *b) { return memcmp(a, b, sizeof *a) == 0; }
+
+/* Into a list that is all 0: sixteen go, each behind those before it and as it is given; a seventeenth does not. */
+static void queued(void)
+{
+    struct book_queue queue, saved_queue;
+    uint64_t numbers[49], expected[49] = {0}, k;
+    memset(&queue, 0, sizeof queue);
+    see(sizeof queue == sizeof numbers, "the list has 49 numbers");
+    for (k = 0; k < BOOK_WAITING_PLACES; k++) {
+        struct book_deliver_request q = deliver_of(UINT64_MAX - k, 77 * k, k == 0 ? BOOK_MIN_DATE : k == 1 ? (uint64_t)BOOK_MAX_DATE : 100 - k);
+        struct book_later_answer a = book_deliver_later(&queue, &q);
+        see(a.refusal == BOOK_COMMITTED && a.detail == 0 && a.before == k, "how many stood before it");
+        expected[0] = k + 1, expected[3 * k + 1] = q.date, expected[3 * k + 2] = q.warehouse, expected[3 * k + 3] = q.carrier;
+        memcpy(numbers, &queue, sizeof queue);
+        see(memcmp(numbers, expected, sizeof numbers) == 0, "a request as it is given");
+    }
+    for (k = 0; k < 4; k++) {
+        const uint64_t counts[4] = {16, 17, UINT64_MAX, 15}, dates[4] = {1, 0, BOOK_MAX_DATE + 1, UINT64_MAX};
+        for (int j = 0; j < 4; j++) {
+            struct book_deliver_request q = deliver_of(1, 1, dates[j]);
+            uint64_t refusal = counts[k] >= 16 ? BOOK_QUEUE_FULL : dates[j] == 1 ? BOOK_COMMITTED : BOOK_BAD_DATE, out[3] = {77, 77, 77};
+            queue = saved_queue = queue_of(counts[k]);
+            book_queue_delivery(&queue, q.warehouse, q.carrier, q.date, out);
+            see(out[0] == refusal && out[1] == 0 && out[2] == (refusal == BOOK_COMMITTED ? 15 : 0), "15 before 7");
+            see(same_queue(&queue, &saved_queue) == (refusal != BOOK_COMMITTED), "a refused queuing changes nothing");
+        }
+    }
+}
+
+/* Three orders wait in district 4 of warehouse 1. */
+static struct book with_orders(void)
+{
+    struct book book = fresh();
+    for (int k = 0; k < 3; k++) see(orders(&book) == BOOK_COMMITTED, "an order to be delivered");
+    return book;
+}
+
+static bool same_answer(const struct book_deliver_answer *a, const struct book_deliver_answer *b)
+{
+    return a->refusal == b->refusal && a->detail == b->detail && a->skipped == b->skipped && a->mark == b->mark &&
+           memcmp(a->orders, b->orders, sizeof a->orders) == 0;
+}
+
+/* The line that a run of this request has to write; its length. */
+static size_t line_of(char *line, size_t room, const struct book_waiting *w, uint64_t date, const struct book_deliver_answer *a)
+{
+    size_t n = (size_t)snprintf(line, room, "%llu\t%llu\t%llu\t%llu\t%llu", (unsigned long long)w->date, (unsigned long long)w->warehouse,
+                                (unsigned long long)w->carrier, (unsigned long long)date,
+                                (unsigned long long)(a->refusal == BOOK_COMMITTED ? a->skipped : a->refusal));
+    for (int d = 0; d < 10 && a->refusal == BOOK_COMMITTED; d++) n += (size_t)snprintf(line + n, room - n, "\t%llu", (unsigned long long)a->orders[d]);
+    return n + (size_t)snprintf(line + n, room - n, "\n");
+}
+
+/* One run beside book_deliver on a copy of the book: the same answer and book, the request off the list, its line in the buffer, whose rest stays. */
+static void ran(struct book *book, struct book_queue *queue, uint64_t date, size_t room)
+{
+    static uint8_t buffer[600], expected[600];
+    static int64_t after[sizeof nums / sizeof *nums];
+    char line[BOOK_RESULT_BYTES];
+    struct book_waiting oldest = queue->waiting[0];
+    struct book_deliver_request q = deliver_of(oldest.warehouse, oldest.carrier, date);
+    struct book_deliver_answer plain, a;
+    struct book_queue left = *queue;
+    size_t length;
+    memcpy(saved, nums, sizeof nums);
+    plain = book_deliver(book, &q);
+    memcpy(after, nums, sizeof nums), memcpy(nums, saved, sizeof nums);
+    for (size_t k = 0; k < sizeof buffer; k++) buffer[k] = expected[k] = (uint8_t)below(256);
+    a = book_deliver_next(book, queue, date, buffer, room);
+    length = line_of(line, sizeof line, &oldest, date, &plain);
+    memcpy(expected, line, length);
+    memmove(left.waiting, left.waiting + 1, sizeof *left.waiting * (size_t)(left.count - 1));
+    memset(&left.waiting[left.count - 1], 0, sizeof *left.waiting), left.count--;
+    see(same_answer(&a, &plain) && memcmp(nums, after, sizeof nums) == 0, "a run does what its Delivery does");
+    see(memcmp(buffer, expected, sizeof buffer) == 0, "a run's line, and the rest of the buffer");
+    see(same_queue(queue, &left), "what a run leaves of the list");
+}
+
+/* Runs that are committed and refused, from lists of every count; a request that was queued behind j others is run by number j + 1. */
+static void runs(void)
+{
+    struct book book;
+    struct book_queue queue;
+    for (uint64_t count = 1; count <= BOOK_WAITING_PLACES; count++) {
+        book = with_orders(), queue = queue_of(count);
+        for (uint64_t k = 0; k < count; k++) {
+            see(queue.waiting[0].date == 100 + k, "the oldest first");
+            ran(&book, &queue, k == 7 ? 0 : 300 + k, k % 2 ? 600 : BOOK_RESULT_BYTES);
+        }
+    }
+    book = with_orders(), queue = queue_of(4);
+    queue.waiting[0].warehouse = UINT64_MAX, queue.waiting[1].carrier = 11, queue.waiting[2].date = UINT64_MAX;
+    for (int k = 0; k < 4; k++) ran(&book, &queue, k == 3 ? BOOK_MAX_DATE + 1 : BOOK_MAX_DATE, BOOK_RESULT_BYTES);
+    queue = queue_of(2);
+    nums[book_customer_at(&small, 1, 9, 2) + BOOK_CUSTOMER_BALANCE] = BOOK_MAX_MONEY + 1;
+    ran(&book, &queue, 300, BOOK_RESULT_BYTES);
+    book.names_len--;
+    ran(&book, &queue, 300, BOOK_RESULT_BYTES);
+}
+
+/* Refused by 16, before all else, a run changes nothing and its arrays are 0 behind the number. */
+static void not_run(void)
+{
+    static uint8_t buffer[BOOK_RESULT_BYTES], kept[BOOK_RESULT_BYTES];
+    const uint64_t counts[6] = {0, 17, UINT64_MAX, UINT64_C(1) << 32, 1, 16};
+    memset(buffer, 0xee, sizeof buffer), memset(kept, 0xee, sizeof kept);
+    for (int k = 0; k < 6; k++)
+        for (int j = 0; j < 3; j++) {
+            struct book book = with_orders();
+            struct book_queue queue = queue_of(counts[k]), saved_queue = queue;
+            size_t room = k < 4 ? sizeof buffer : j == 0 ? 0 : sizeof buffer - (size_t)j;
+            uint64_t out[4], delivered[10], none[10] = {0};
+            memset(out, 0x5a, sizeof out), memset(delivered, 0x5a, sizeof delivered);
+            memcpy(saved, nums, sizeof nums);
+            if (j == 1) book.nums_len--;
+            book_run_delivery(book.nums, book.nums_len, book.names, book.names_len, &queue, j == 2 ? 0 : 300, room == 0 ? NULL : buffer, room, out,
+                              delivered);
+            see(out[0] == BOOK_NOT_RUN && out[1] == 0 && out[2] == 0 && out[3] == 0 && memcmp(delivered, none, sizeof none) == 0, "16 before all others");
+            see(same_queue(&queue, &saved_queue) && memcmp(buffer, kept, sizeof kept) == 0 && memcmp(nums, saved, sizeof nums) == 0,
+                "a run refused by 16 changes nothing");
+            see(book_deliver_next(&book, &queue, 300, buffer, room).refusal == BOOK_NOT_RUN, "16 by the inline function");
+        }
+}
+
 /* ---- Refusals by name, and that they leave the book; NULL with length 0 ---- */
 
 static void refused(void)
@@ -633,7 +778,8 @@ int main(void)
             book_last_numbers(&small) == sizeof last / sizeof *last && book_note_bytes(&small) == sizeof notes,
         "the small book's room");
     for (int k = 0; k < 200000; k++) layout();
-    masters(), ranges(), story(), in_use(), last_length(), last_places(), last_range(), notes_length(), notes_places(), notes_moved(), refused(), lines();
+    masters(), ranges(), story(), in_use(), last_length(), last_places(), last_range(), notes_length(), notes_places(), notes_moved();
+    queued(), runs(), not_run(), refused(), lines();
     printf("header: %lu facts, %lu wrong\n", tried, wrong);
     return wrong != 0;
 }

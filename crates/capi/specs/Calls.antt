@@ -11,6 +11,8 @@ use Rattle.model.specs.declared.Line.{Line}
 use Rattle.model.specs.declared.NewOrder.{NewOrder}
 use Rattle.model.specs.declared.Payment.{Payment}
 use Rattle.model.specs.declared.Delivery.{Delivery}
+use Rattle.model.specs.declared.Waiting.{Waiting}
+use Rattle.model.specs.declared.Queue.{Queue}
 use Rattle.model.specs.declared.OrderStatus.{OrderStatus}
 use Rattle.model.specs.declared.StockLevel.{StockLevel}
 use Rattle.model.specs.declared.ReadAnswer.{ReadAnswer}
@@ -19,6 +21,7 @@ use Rattle.model.specs.Opening.{openingAnswer}
 use Rattle.model.specs.NewOrder.{newOrderAnswer, newOrderBook, newOrderLast}
 use Rattle.model.specs.Payment.{paymentAnswer, paymentBook, paymentNotes}
 use Rattle.model.specs.Delivery.{deliveryAnswer, deliveryOrders, deliveryBook}
+use Rattle.model.specs.Queue.{queueAnswer, queueAfter, runAnswer, runOrders, runBook, runQueue, runBuffer}
 use Rattle.model.specs.OrderStatus.{statusAnswer, statusPart}
 use Rattle.model.specs.StockLevel.{stockLevelAnswer}
 use Rattle.model.specs.Request.{Request, linesOf}
@@ -46,6 +49,19 @@ pub record DeliveryC (b : List ℤ) (names : List ℕ) (q : Delivery) (out order
   pub answers : out ≡ twoOut (deliveryAnswer b names q)
   pub numbers : orders ≡ deliveryOrders b names q
   pub leaves : left ≡ deliveryBook b names q
+
+-- kept: the waiting list as the call leaves it
+pub record QueueC (q : Queue) (x : Waiting) (out : List ℕ) (kept : Queue) : Type 0 where
+  pub answers : out ≡ oneOut (queueAnswer q x)
+  pub keeps : kept ≡ queueAfter q x
+
+-- written: the buffer as the run leaves it
+pub record RunC (b : List ℤ) (names : List ℕ) (q : Queue) (date : ℕ) (buffer out orders : List ℕ) (left : List ℤ) (kept : Queue) (written : List ℕ) : Type 0 where
+  pub answers : out ≡ twoOut (runAnswer b names q date buffer)
+  pub numbers : orders ≡ runOrders b names q date buffer
+  pub leaves : left ≡ runBook b names q date buffer
+  pub keeps : kept ≡ runQueue q buffer
+  pub writes : written ≡ runBuffer b names q date buffer
 
 -- the last two numbers name the part of the book that is shown, which lies in the book
 pub record StatusC (b : List ℤ) (names : List ℕ) (last : List ℤ) (q : OrderStatus) (who : Who) (out : List ℕ) (balance : List ℤ) : Type 0 where

@@ -2,13 +2,13 @@
 ghost use mathlib.Core.Path.{_≡_};
 ghost use mathlib.Core.List.{List, []};
 ghost use Rattle.model.specs.Names.{whoOf};
-ghost use Rattle.flat.specs.Flat.{selectionOf, newOrderOf, paymentOf, deliveryOf, statusOf, stockLevelOf};
+ghost use Rattle.flat.specs.Flat.{selectionOf, newOrderOf, paymentOf, deliveryOf, waitingOf, statusOf, stockLevelOf};
 ghost use Rattle.model.specs.declared.Line.{Line};
 ghost use Rattle.model.specs.Request.{requestOf, newOrder, payment, delivery, orderStatus, stockLevel};
 ghost use Rattle.model.specs.RequestLine.{readLine, stored};
 ghost use Rattle.records.specs.Gathered.{Gathered};
 ghost use Rattle.places.specs.Places.{dimsOf, spotOf};
-ghost use Rattle.capi.specs.Calls.{OpeningC, NewOrderC, PaymentC, DeliveryC, StatusC, StockLevelC, ReadC, WriteC, PlacesC};
+ghost use Rattle.capi.specs.Calls.{OpeningC, NewOrderC, PaymentC, DeliveryC, QueueC, RunC, StatusC, StockLevelC, ReadC, WriteC, PlacesC};
 use model::Delivery;
 use model::Form;
 use model::Line;
@@ -16,14 +16,16 @@ use model::Lines;
 use model::NewOrder;
 use model::OrderStatus;
 use model::Payment;
+use model::Queue;
 use model::StockLevel;
+use model::Waiting;
 
 // The version of these functions: BOOK_VERSION of include/book.h.
 #[no_mangle]
 pub extern "C" fn book_version() -> u64
-    ensures { λ r. ⌜ r ≡ 3 ⌝ }
+    ensures { λ r. ⌜ r ≡ 4 ⌝ }
 {
-    3
+    4
 }
 
 // Opening.
@@ -118,10 +120,45 @@ pub extern "C" fn book_delivery(
         date,
     };
     let a = delivery::delivery(nums, names, q);
-    let o = a.outcome;
-    *out = flat::delivery_out(o);
-    let os = a.orders;
-    *orders = os;
+    flat::put_delivery(out, orders, a)
+}
+
+// Queues a Delivery behind those that wait; date is the queuing date.
+#[no_mangle]
+pub extern "C" fn book_queue_delivery(
+    queue: &mut Queue,
+    warehouse: u64,
+    carrier: u64,
+    date: u64,
+    out: &mut [u64; 3],
+)
+    ensures { λ _. ⌜ QueueC (now (queue .entry)) (waitingOf warehouse carrier date) (now (out .exit)) (now (queue .exit)) ⌝ }
+{
+    let x = Waiting {
+        date,
+        warehouse,
+        carrier,
+    };
+    let a = queue::queue_delivery(queue, x);
+    flat::put_queue(out, a)
+}
+
+// Runs the oldest of the Deliveries that wait; date is the finishing date, and the result line goes to the buffer's front.
+#[no_mangle]
+pub extern "C" fn book_run_delivery(
+    nums: &mut [i64],
+    names: &[u8],
+    queue: &mut Queue,
+    date: u64,
+    buffer: &mut [u8],
+    out: &mut [u64; 4],
+    orders: &mut [u64; 10],
+)
+    ensures { λ _. ⌜ RunC (now (nums .entry)) (now (names .entry)) (now (queue .entry)) date (now (buffer .entry))
+        (now (out .exit)) (now (orders .exit)) (now (nums .exit)) (now (queue .exit)) (now (buffer .exit)) ⌝ }
+{
+    let a = queue::run_delivery(nums, names, queue, date, buffer);
+    flat::put_delivery(out, orders, a)
 }
 
 // Order-Status by customer number, or by last name where named is true; the lines are the part of nums that out names at its end;

@@ -10,6 +10,7 @@ use Rattle.model.specs.declared.Selection.the-variants.{Number, LastName}
 use Rattle.model.specs.declared.Payment.{Payment}
 use Rattle.model.specs.declared.NewOrder.{NewOrder}
 use Rattle.model.specs.declared.Delivery.{Delivery}
+use Rattle.model.specs.declared.Waiting.{Waiting}
 use Rattle.model.specs.declared.OrderStatus.{OrderStatus}
 use Rattle.model.specs.declared.Part.{Part}
 use Rattle.model.specs.declared.StockLevel.{StockLevel}
@@ -62,6 +63,9 @@ paymentOf w k cw ck date amount = record { warehouse = w; district = k; custware
 
 abbrev pub deliveryOf : ℕ → ℕ → ℕ → Delivery
 deliveryOf w carrier date = record { warehouse = w; carrier = carrier; date = date }
+
+abbrev pub waitingOf : ℕ → ℕ → ℕ → Waiting
+waitingOf w carrier date = record { date = date; warehouse = w; carrier = carrier }
 
 abbrev pub statusOf : ℕ → ℕ → OrderStatus
 statusOf w k = record { warehouse = w; district = k }

@@ -1,11 +1,12 @@
 // Answers as flat numbers that a caller lends, and a request's flat numbers as the call takes them.
 ghost use mathlib.Core.Path.{_≡_};
-ghost use Rattle.model.specs.Answer.{openingSays, newOrderSays, paymentSays, deliverySays, statusSays, stockLevelSays};
+ghost use Rattle.model.specs.Answer.{openingSays, newOrderSays, paymentSays, deliverySays, queueSays, statusSays, stockLevelSays};
 ghost use Rattle.flat.specs.Flat.{bareOut, oneOut, twoOut, balanceOut, statusOut, selectionOf};
 ghost use Rattle.model.specs.RequestLine.{writeSays};
 ghost use Rattle.model.specs.declared.Form.the-variants as Form;
 ghost use Rattle.flat.specs.FlatLines.{namedOut, numberOut, formOut, readOut};
 use model::Delivery;
+use model::DeliveryAnswer;
 use model::DeliveryOutcome;
 use model::Form;
 use model::NewOrder;
@@ -15,6 +16,8 @@ use model::OpeningOutcome;
 use model::OrderStatus;
 use model::Payment;
 use model::PaymentOutcome;
+use model::QueueAnswer;
+use model::QueueOutcome;
 use model::ReadOutcome;
 use model::Selection;
 use model::StatusOutcome;
@@ -81,13 +84,41 @@ pub fn payment_balance(o: PaymentOutcome) -> [i64; 1]
 }
 
 // Delivery's answer: number, detail, skip count, mark.
-pub fn delivery_out(o: DeliveryOutcome) -> [u64; 4]
+fn delivery_out(o: DeliveryOutcome) -> [u64; 4]
     ensures { λ r. ⌜ r ≡ twoOut (deliverySays o) ⌝ }
 {
     match o {
         DeliveryOutcome::Committed(f) => [0, 0, f.skipped, f.mark],
         DeliveryOutcome::Refused(r) => [r.number, r.detail, 0, 0],
     }
+}
+
+// Delivery's answer and its ten order numbers, put into the lent numbers.
+pub fn put_delivery(out: &mut [u64; 4], orders: &mut [u64; 10], a: DeliveryAnswer)
+    ensures { λ _. ⌜ (now (out .exit) ≡ twoOut (deliverySays (a .outcome))) × (now (orders .exit) ≡ a .orders) ⌝ }
+{
+    let o = a.outcome;
+    *out = delivery_out(o);
+    let os = a.orders;
+    *orders = os;
+}
+
+// A queuing call's answer: number, detail, how many stood before it.
+fn queue_out(o: QueueOutcome) -> [u64; 3]
+    ensures { λ r. ⌜ r ≡ oneOut (queueSays o) ⌝ }
+{
+    match o {
+        QueueOutcome::Committed(f) => [0, 0, f.before],
+        QueueOutcome::Refused(r) => [r.number, r.detail, 0],
+    }
+}
+
+// A queuing call's answer, put into the lent numbers.
+pub fn put_queue(out: &mut [u64; 3], a: QueueAnswer)
+    ensures { λ _. ⌜ now (out .exit) ≡ oneOut (queueSays (a .outcome)) ⌝ }
+{
+    let o = a.outcome;
+    *out = queue_out(o);
 }
 
 // Order-Status's answer: number, detail, customer, order, date, carrier, then the shown part.

@@ -46,6 +46,8 @@ pub mod LastDemand
 pub mod Steady
 pub mod NoteLaws
 pub mod NoteDemand
+pub mod QueueLaws
+pub mod QueueDemand
 pub mod Masters
 pub mod SlotLaws
 pub mod Consistency
@@ -53,3 +55,4 @@ pub mod Listing
 pub mod Readings
 pub mod LastCases
 pub mod NoteCases
+pub mod QueueCases

@@ -11,6 +11,8 @@ use Rattle.model.specs.declared.PaymentOutcome.{PaymentOutcome}
 use Rattle.model.specs.declared.PaymentOutcome.the-variants as PaymentCase
 use Rattle.model.specs.declared.DeliveryOutcome.{DeliveryOutcome}
 use Rattle.model.specs.declared.DeliveryOutcome.the-variants as DeliveryCase
+use Rattle.model.specs.declared.QueueOutcome.{QueueOutcome}
+use Rattle.model.specs.declared.QueueOutcome.the-variants as QueueCase
 use Rattle.model.specs.declared.StatusOutcome.{StatusOutcome}
 use Rattle.model.specs.declared.StatusOutcome.the-variants as StatusCase
 use Rattle.model.specs.declared.StockLevelOutcome.{StockLevelOutcome}
@@ -48,6 +50,10 @@ paymentSays (PaymentCase.Refused r) = refused r
 abbrev pub deliverySays : DeliveryOutcome → Answer
 deliverySays (DeliveryCase.Committed f) = committed (pos (f .skipped) ∷ pos (f .mark) ∷ [])
 deliverySays (DeliveryCase.Refused r) = refused r
+
+abbrev pub queueSays : QueueOutcome → Answer
+queueSays (QueueCase.Committed f) = committed (pos (f .before) ∷ [])
+queueSays (QueueCase.Refused r) = refused r
 
 abbrev pub statusSays : StatusOutcome → Answer
 statusSays (StatusCase.Committed f) = committed (pos (f .customer) ∷ f .balance ∷ pos (f .order) ∷ pos (f .date) ∷ pos (f .carrier) ∷ [])

@@ -9,20 +9,24 @@ use Rattle.model.specs.declared.Line.{Line}
 use Rattle.model.specs.declared.NewOrder.{NewOrder}
 use Rattle.model.specs.declared.Payment.{Payment}
 use Rattle.model.specs.declared.Delivery.{Delivery}
+use Rattle.model.specs.declared.Waiting.{Waiting}
+use Rattle.model.specs.declared.Queue.{Queue}
 use Rattle.model.specs.declared.OrderStatus.{OrderStatus}
 use Rattle.model.specs.declared.StockLevel.{StockLevel}
 use Rattle.model.specs.declared.OpeningAnswer.{OpeningAnswer}
 use Rattle.model.specs.declared.NewOrderAnswer.{NewOrderAnswer}
 use Rattle.model.specs.declared.PaymentAnswer.{PaymentAnswer}
 use Rattle.model.specs.declared.DeliveryAnswer.{DeliveryAnswer}
+use Rattle.model.specs.declared.QueueAnswer.{QueueAnswer}
 use Rattle.model.specs.declared.StatusOutcome.{StatusOutcome}
 use Rattle.model.specs.declared.StockLevelAnswer.{StockLevelAnswer}
 use Rattle.model.specs.Names.{Who}
-use Rattle.model.specs.Answer.{openingSays, newOrderSays, paymentSays, deliverySays, statusSays, stockLevelSays}
+use Rattle.model.specs.Answer.{openingSays, newOrderSays, paymentSays, deliverySays, queueSays, statusSays, stockLevelSays}
 use Rattle.model.specs.Opening.{openingAnswer}
 use Rattle.model.specs.NewOrder.{newOrderAnswer, newOrderBook, newOrderLast}
 use Rattle.model.specs.Payment.{paymentAnswer, paymentBook, paymentNotes}
 use Rattle.model.specs.Delivery.{deliveryAnswer, deliveryOrders, deliveryBook}
+use Rattle.model.specs.Queue.{queueAnswer, queueAfter, runAnswer, runOrders, runBook, runQueue, runBuffer}
 use Rattle.model.specs.OrderStatus.{statusAnswer, statusPart, statusLines}
 use Rattle.model.specs.StockLevel.{stockLevelAnswer}
 
@@ -47,6 +51,19 @@ pub record DeliveryCall (b : List ℤ) (names : List ℕ) (q : Delivery) (r : De
   pub says : deliverySays (r .outcome) ≡ deliveryAnswer b names q
   pub orders : r .orders ≡ deliveryOrders b names q
   pub leaves : left ≡ deliveryBook b names q
+
+-- kept: the waiting list as the call leaves it
+pub record QueueCall (q : Queue) (x : Waiting) (r : QueueAnswer) (kept : Queue) : Type 0 where
+  pub says : queueSays (r .outcome) ≡ queueAnswer q x
+  pub keeps : kept ≡ queueAfter q x
+
+-- written: the buffer as the run leaves it
+pub record RunCall (b : List ℤ) (names : List ℕ) (q : Queue) (date : ℕ) (buffer : List ℕ) (r : DeliveryAnswer) (left : List ℤ) (kept : Queue) (written : List ℕ) : Type 0 where
+  pub says : deliverySays (r .outcome) ≡ runAnswer b names q date buffer
+  pub orders : r .orders ≡ runOrders b names q date buffer
+  pub leaves : left ≡ runBook b names q date buffer
+  pub keeps : kept ≡ runQueue q buffer
+  pub writes : written ≡ runBuffer b names q date buffer
 
 -- "its lines are shown as that part of the lent book, not copied": the returned slice lies in the lent one, 8 bytes a number
 pub record StatusCall (b : List ℤ) (names : List ℕ) (last : List ℤ) (q : OrderStatus) (who : Who) (outcome : StatusOutcome) (shown : List ℤ) (book at : ℕ × ℕ) : Type 0 where

@@ -17,12 +17,15 @@ pub mod Rounding
 pub mod Note
 pub mod Payment
 pub mod Delivery
+pub mod Queue
 pub mod OrderStatus
 pub mod StockLevel
 pub mod Request
 pub mod RequestLine
 pub mod AnswerLine
 pub mod Tally
+pub mod Events
 pub mod Claim
 pub mod NoteClaim
+pub mod QueueClaim
 pub mod Contracts

@@ -42,6 +42,21 @@ pub struct Delivery {
     pub date: u64,
 }
 
+// R-5: a Delivery that waits for its turn, with the date of queuing.
+#[repr(C)]
+pub struct Waiting {
+    pub date: u64,
+    pub warehouse: u64,
+    pub carrier: u64,
+}
+
+// R-5: how many wait, and their places, the oldest first.
+#[repr(C)]
+pub struct Queue {
+    pub count: u64,
+    pub waiting: [Waiting; 16],
+}
+
 // An Order-Status without whose, who is given beside it.
 pub struct OrderStatus {
     pub warehouse: u64,
@@ -130,6 +145,20 @@ pub enum DeliveryOutcome {
 pub struct DeliveryAnswer {
     pub outcome: DeliveryOutcome,
     pub orders: [u64; 10],
+}
+
+// R-5: how many stood before the Delivery that was queued.
+pub struct QueueFigures {
+    pub before: u64,
+}
+
+pub enum QueueOutcome {
+    Committed(QueueFigures),
+    Refused(Refusal),
+}
+
+pub struct QueueAnswer {
+    pub outcome: QueueOutcome,
 }
 
 pub struct StatusFigures {

@@ -35,7 +35,7 @@ pub fn put_digits(line: &mut [u8], at: usize, n: u64) -> usize
 }
 
 // A tab and a number.
-fn put_number(line: &mut [u8], at: usize, n: u64) -> usize
+pub fn put_number(line: &mut [u8], at: usize, n: u64) -> usize
     requires { ⌜ at + 1 + length (decimal n) ≤ length (now line) ⌝ }
     ensures { λ r. ⌜ Wrote (now (line .entry)) (now (line .exit)) at r (tabbed (decimal n ∷ [])) × (r ≤ at + 21) ⌝ }
 {

@@ -25,6 +25,7 @@ fn main() {
     for (name, requests) in calls() {
         row(name, &filled, requests.len(), |engine, lent| carry(engine, lent, &requests));
     }
+    row("Delivery queued and run", &filled, 20, |engine, lent| (0..20).for_each(|n| engine.later(lent, n)));
 }
 
 /// Times both engines, round by round in turn, and prints the best of each.
@@ -49,6 +50,8 @@ fn time(engine: &mut dyn Carry, book: &Lent, calls: usize, work: &impl Fn(&mut d
 trait Carry {
     fn open(&mut self, lent: &Lent);
     fn carry(&mut self, lent: &mut Lent, request: &Request);
+    /// Queues the Delivery with this number and runs it.
+    fn later(&mut self, lent: &mut Lent, n: usize);
 }
 
 impl<E: Engine> Carry for E {
@@ -65,6 +68,14 @@ impl<E: Engine> Carry for E {
             Request::StockLevel(r) => matches!(self.stock_level(lent, r), second::Outcome::Committed(_)),
         };
         assert!(committed, "a request of the bench was refused");
+    }
+
+    fn later(&mut self, lent: &mut Lent, n: usize) {
+        let request = delivered(n);
+        let queued = self.queue_delivery(lent, &request);
+        assert!(matches!(queued, second::Outcome::Committed(_)), "a Delivery was not queued");
+        let answer = self.run_delivery(lent, request.date);
+        assert!(matches!(answer.outcome, second::Outcome::Committed(_)), "a run was refused");
     }
 }
 
@@ -124,11 +135,15 @@ fn payment(n: usize, who: Who) -> Request {
 }
 
 fn delivery(n: usize) -> Request {
-    Request::Delivery(Delivery {
+    Request::Delivery(delivered(n))
+}
+
+fn delivered(n: usize) -> Delivery {
+    Delivery {
         warehouse: number(n, W),
         carrier: number(n, 10),
         date: 1_000_000,
-    })
+    }
 }
 
 fn status(n: usize, who: Who) -> Request {
@@ -170,7 +185,14 @@ fn book(orders: usize) -> Lent {
         }
     }
     nums.resize(nums.len() + 7 * H, 0);
-    Lent { nums, names: names(), last: last_orders(orders), notes: vec![b' '; 5_000 * W * C] }
+    Lent {
+        nums,
+        names: names(),
+        last: last_orders(orders),
+        notes: vec![b' '; 5_000 * W * C],
+        buffer: vec![0; 400],
+        ..Lent::default()
+    }
 }
 
 /// The last orders of every district's customers, as `order` enters them.

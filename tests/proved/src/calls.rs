@@ -3,8 +3,8 @@
 use second::replay::{Engine, Lent};
 use second::{
     Delivery, DeliveryAnswer, DeliveryFigures, Line, NewOrder, NewOrderFigures, OrderStatus,
-    OrderStatusAnswer, OrderStatusFigures, Outcome, Payment, PaymentFigures, Refusal, Request,
-    StockLevel, StockLevelFigures, Who,
+    OrderStatusAnswer, OrderStatusFigures, Outcome, Payment, PaymentFigures, Queue, QueueFigures,
+    Refusal, Request, StockLevel, StockLevelFigures, Who,
 };
 
 extern "C" {
@@ -80,6 +80,19 @@ extern "C" {
         district: u64,
         threshold: u64,
         out: *mut u64,
+    );
+    fn book_queue_delivery(queue: *mut Queue, warehouse: u64, carrier: u64, date: u64, out: *mut u64);
+    fn book_run_delivery(
+        nums: *mut i64,
+        nums_len: usize,
+        names: *const u8,
+        names_len: usize,
+        queue: *mut Queue,
+        date: u64,
+        buffer: *mut u8,
+        buffer_len: usize,
+        out: *mut u64,
+        orders: *mut u64,
     );
 }
 
@@ -232,6 +245,35 @@ impl Engine for ProvedEngine {
             out.as_mut_ptr(),
         );
         outcome(&out, StockLevelFigures { low_stock: out[2] })
+    }
+
+    fn queue_delivery(&mut self, lent: &mut Lent, request: &Delivery) -> Outcome<QueueFigures> {
+        let mut out = [77; 3];
+        let queue = &mut lent.queue;
+        // SAFETY: the record and the out array lie as the header says.
+        unsafe { book_queue_delivery(queue, request.warehouse, request.carrier, request.date, out.as_mut_ptr()) };
+        outcome(&out, QueueFigures { before: out[2] })
+    }
+
+    /// The ten orders start out of place, so that what a refused run leaves unwritten shows.
+    fn run_delivery(&mut self, lent: &mut Lent, date: u64) -> DeliveryAnswer {
+        let mut out = [77; 4];
+        let mut orders = [77; 10];
+        on_book!(
+            book_run_delivery,
+            lent.nums.as_mut_ptr(),
+            lent,
+            &mut lent.queue,
+            date,
+            lent.buffer.as_mut_ptr(),
+            lent.buffer.len(),
+            out.as_mut_ptr(),
+            orders.as_mut_ptr(),
+        );
+        DeliveryAnswer {
+            outcome: outcome(&out, DeliveryFigures { skip_count: out[2], skip_mark: out[3] }),
+            orders,
+        }
     }
 
     fn read(&mut self, line: &[u8]) -> Outcome<Request> {

@@ -4,7 +4,7 @@
 
 use proved::ProvedEngine;
 use second::replay::{print, Engine, Lent, SecondEngine};
-use second::{Delivery, Line, NewOrder, OrderStatus, Payment, Request, StockLevel, Who};
+use second::{Delivery, Line, NewOrder, OrderStatus, Payment, Queue, Request, StockLevel, Waiting, Who};
 
 /// W, C, I, O and H.
 type Head = [usize; 5];
@@ -47,6 +47,82 @@ fn notes_up_to_300_000_000_bytes() {
     let end = &lent.notes[300_000_000 - 1_000..];
     let note = "3000 10 20 10 20 500;";
     assert_eq!(String::from_utf8_lossy(end), format!("{:500}{:500}", "", note.repeat(2)));
+}
+
+/// Both engines write the longest line of a committed run: order 10,000 of every district, queued on the latest date that a record can hold.
+#[test]
+fn longest_line_of_a_committed_run() {
+    let mut lent = book([1, 1, 1, 10_000, 1]);
+    for d in 0..10 {
+        lent.nums[8 + 3 * d + 2] = 10_001;
+        for order in 0..10_000 {
+            let slot = 6 + 2 + 30 + 60 + 1 + 4 + 81 * (10_000 * d + order);
+            let waits = i64::from(order == 9_999);
+            lent.nums[slot..slot + 11].copy_from_slice(&[1, 1, 0, 1, 1, waits, 1, 1, 1, 250, 0]);
+        }
+    }
+    lent.queue = waiting(1, [u64::MAX, 1, 10]);
+    let line = format!("{}\t1\t10\t6342969600\t0{}\n", u64::MAX, "\t10000".repeat(10));
+    let answer = format!("RD 0 0 0{}", " 10000".repeat(10));
+    ran(&lent, 6_342_969_600, &line, &answer);
+}
+
+/// The longest line of a run whose Delivery is refused: four numbers of 20 digits.
+#[test]
+fn longest_line_of_a_refused_run() {
+    let mut lent = book([1, 1, 1, 1, 1]);
+    lent.queue = waiting(1, [u64::MAX; 3]);
+    let line = format!("{0}\t{0}\t{0}\t{0}\t4\n", u64::MAX);
+    ran(&lent, u64::MAX, &line, "RD 4 0");
+    lent.names.pop();
+    ran(&lent, u64::MAX, &line.replace("\t4\n", "\t2\n"), "RD 2 0");
+}
+
+/// Counts beside 0 and 16 and at the end of 64 bits: queuing and running on a record that holds something everywhere, by both engines.
+#[test]
+fn counts_of_the_waiting_list() {
+    for count in [0, 1, 2, 15, 16, 17, 1 << 32, (1 << 32) + 1, 1 << 63, u64::MAX] {
+        let mut lent = book([1, 1, 1, 1, 1]);
+        lent.queue = waiting(count, [5, 1, 7]);
+        lent.buffer = vec![0xee; 400];
+        let said = if count < 16 { format!("QD 0 {count}") } else { "QD 15 0".to_string() };
+        let request = Delivery { warehouse: 1, carrier: 8, date: 6 };
+        let queued = |engine: &mut dyn Engine, lent: &mut Lent| print::queue_delivery(engine.queue_delivery(lent, &request));
+        same(&lent, &said, queued);
+        let said = if (1..=16).contains(&count) { "RD 0 10 1023 0 0 0 0 0 0 0 0 0 0" } else { "RD 16 0" };
+        same(&lent, said, |engine, lent| print::delivery("RD", &engine.run_delivery(lent, 9)));
+    }
+}
+
+/// A record of this count, all of whose places are the same: queuing date, warehouse, carrier.
+fn waiting(count: u64, [date, warehouse, carrier]: [u64; 3]) -> Queue {
+    Queue { count, waiting: [Waiting { date, warehouse, carrier }; 16] }
+}
+
+/// Both engines run with 400 bytes and with more, and write this line; a byte less is refused by 16 and nothing is changed.
+fn ran(lent: &Lent, date: u64, line: &str, answer: &str) {
+    for length in [400, 401, 1_000] {
+        let mut lent = lent.clone();
+        lent.buffer = vec![0xee; length];
+        let left = same(&lent, answer, |engine, lent| print::delivery("RD", &engine.run_delivery(lent, date)));
+        let (front, rest) = left.buffer.split_at(line.len());
+        assert_eq!(String::from_utf8_lossy(front), line);
+        assert!(rest.iter().all(|&byte| byte == 0xee), "bytes behind the line");
+        assert_eq!(left.queue.count, 0);
+    }
+    let mut lent = lent.clone();
+    lent.buffer = vec![0xee; 399];
+    let left = same(&lent, "RD 16 0", |engine, lent| print::delivery("RD", &engine.run_delivery(lent, date)));
+    assert!(left == lent, "changed by a run refused by 16");
+}
+
+/// Both engines answer this and leave the same, which is given.
+fn same(lent: &Lent, said: &str, call: impl Fn(&mut dyn Engine, &mut Lent) -> String) -> Lent {
+    let (mut proved, mut second) = (lent.clone(), lent.clone());
+    assert_eq!(call(&mut ProvedEngine, &mut proved), said, "the proved library, {:?}", lent.queue.count);
+    assert_eq!(call(&mut SecondEngine, &mut second), said, "the second engine, {:?}", lent.queue.count);
+    assert!(proved == second, "the engines leave different things");
+    proved
 }
 
 /// Committed at the limit; refused by 2 where a length is one off, and above the limit; New-Order and Order-Status by 13 where that of the last
@@ -164,7 +240,13 @@ fn book(head: Head) -> Lent {
     nums.extend([250].repeat(i));
     nums.extend([20, 0, 0, 0].repeat(w * i));
     nums.resize(nums.len() + 81 * 10 * w * o + 7 * h, 0);
-    Lent { nums, names: vec![b'A'; 32 * 10 * w * c], last: vec![0; 10 * w * c], notes: vec![b' '; 5_000 * w * c] }
+    Lent {
+        nums,
+        names: vec![b'A'; 32 * 10 * w * c],
+        last: vec![0; 10 * w * c],
+        notes: vec![b' '; 5_000 * w * c],
+        ..Lent::default()
+    }
 }
 
 /// The book with that many more last orders.

@@ -85,3 +85,9 @@ pub struct OrderStatusAnswer<'a> {
 pub struct StockLevelFigures {
     pub low_stock: u64,
 }
+
+/// How many requests stood before the one that was queued.
+#[derive(Debug, Clone, Copy, PartialEq, Eq)]
+pub struct QueueFigures {
+    pub before: u64,
+}

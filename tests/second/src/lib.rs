@@ -8,6 +8,8 @@
 //! A further lent slice (R-1 of document 02) has the last order number of each customer:
 //! New-Order writes it, Order-Status reads it, no other call takes it. Another, the
 //! notes, has a text of 500 bytes for each customer: Payment alone takes and writes it.
+//! Deliveries may wait their turn in a record, which a call that queues and a call that
+//! runs the oldest change, the latter with a lent buffer for its result line.
 
 pub mod answer;
 pub mod book_program;
@@ -21,6 +23,7 @@ pub mod note;
 pub mod opening;
 pub mod order_status;
 pub mod payment;
+pub mod queue;
 pub mod ranges;
 pub mod replay;
 pub mod request;
@@ -30,7 +33,7 @@ pub mod who;
 
 pub use answer::{
     DeliveryAnswer, DeliveryFigures, NewOrderFigures, OrderStatusAnswer, OrderStatusFigures,
-    Outcome, PaymentFigures, Refusal, StockLevelFigures,
+    Outcome, PaymentFigures, QueueFigures, Refusal, StockLevelFigures,
 };
 pub use delivery::delivery;
 pub use lines::{read_line, write_line};
@@ -38,5 +41,6 @@ pub use new_order::new_order;
 pub use opening::open;
 pub use order_status::order_status;
 pub use payment::payment;
+pub use queue::{queue_delivery, run_delivery, Queue, Waiting};
 pub use request::{Delivery, Line, NewOrder, OrderStatus, Payment, Request, StockLevel, Who};
 pub use stock_level::stock_level;

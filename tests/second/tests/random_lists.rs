@@ -7,15 +7,16 @@ use common::ends;
 use second::layout::Layout;
 use second::lists::last::scanned;
 use second::lists::{self, stats};
-use second::replay::command::{parse, Command};
+use second::queue::PLACES;
+use second::replay::command::{parse, Command, Slice};
 use second::replay::{Engine, Lent, SecondEngine, Slices};
 use second::who::{self, Found};
 use second::*;
-use std::collections::HashMap;
+use std::collections::{HashMap, VecDeque};
 use std::sync::LazyLock;
 
 /// How often lists reach each answer, counted once for all tests.
-static COUNTS: LazyLock<stats::Counts> = LazyLock::new(|| stats::count(11, 2_500));
+static COUNTS: LazyLock<stats::Counts> = LazyLock::new(|| stats::count(11, 3_000));
 
 /// Makes a call and gives its number; asserts that a refused one changes nothing.
 fn call(lent: &mut Lent, request: &Request) -> u64 {
@@ -35,6 +36,12 @@ fn no_panic_and_refused_changes_nothing() {
                 }
                 Command::Call(request) => {
                     call(&mut slices.lent, &request);
+                }
+                Command::QueueDelivery(request) => {
+                    common::queue(&mut slices.lent, &request);
+                }
+                Command::RunDelivery(date) => {
+                    common::run(&mut slices.lent, date);
                 }
                 Command::Read(line) => read_back(&line),
                 Command::Write(cap, request) => write_back(cap, &request),
@@ -74,7 +81,7 @@ fn every_answer_is_reached() {
             .filter(|((w, n, _), _)| w == word && *n == number);
         same.map(|(_, times)| times).sum()
     };
-    let answers: [(&str, &[u64]); 10] = [
+    let answers: [(&str, &[u64]); 13] = [
         ("OPEN", &[0, 2, 3]),
         ("N", &[0, 2, 4, 5, 6, 7, 8, 9, 11, 12, 13]),
         ("P", &[0, 2, 4, 5, 6, 7, 8, 9, 10, 11, 14]),
@@ -85,6 +92,9 @@ fn every_answer_is_reached() {
         ("WRITE", &[0, 1]),
         ("=", &[0, 9, 10]),
         (";", &[0, 2, 9, 11, 14]),
+        ("QD", &[0, 7, 15]),
+        ("RD", &[0, 2, 4, 7, 8, 9, 16]),
+        (">", &[0, 2, 4, 7, 8, 9, 15, 16]),
     ];
     for (word, numbers) in answers {
         for &number in numbers {
@@ -219,6 +229,51 @@ fn every_kind_of_payment_is_reached() {
     }
 }
 
+/// Calls that queue and that run, by the record, the buffer and the dates that they find and get, and 15 and 16 with what stands behind them in
+/// checking order; runs whose Delivery is refused, with others waiting behind.
+#[test]
+fn every_kind_of_turn_is_reached() {
+    let mut kinds = Vec::new();
+    let mut add = |number: u64, word: &str, these: &[&str]| {
+        kinds.extend(these.iter().map(|kind| (number, format!("{word}, {kind}"))));
+    };
+    let beyond = ["count 17", "count 2^64 - 1", "another count"];
+    let waiting = ["count 1", "count 2 to 14", "count 15", "count 16"];
+    add(0, "queued", &["count 0", "count 1", "count 15"]);
+    add(0, "queued", &["date 1", "the last date"]);
+    add(0, "queued", &["such a warehouse", "such a carrier"]);
+    add(
+        7,
+        "queued",
+        &["date 0", "one above the last date", "count 15"],
+    );
+    add(15, "queued", &["count 16", "alone", "before 7"]);
+    add(15, "queued", &beyond);
+    for number in [0, 2, 4, 7, 8, 9] {
+        let lengths = ["400 bytes", "401 bytes", "more bytes"];
+        add(number, "run", &lengths);
+        add(number, "run", &waiting);
+        add(number, "run", &["20 digits", "numbers beyond the count"]);
+    }
+    add(
+        0,
+        "run",
+        &["date 1", "the last date", "such a queuing date"],
+    );
+    add(7, "run", &["date 0", "one above the last date"]);
+    add(16, "run", &["count 0", "0 bytes", "399 bytes", "alone"]);
+    add(16, "run", &beyond);
+    add(16, "run", &waiting);
+    for number in [2, 4, 7, 8, 9] {
+        kinds.push((16, format!("run, before {number}")));
+    }
+    for (number, kind) in kinds {
+        let key = (">".to_string(), number, kind);
+        let times = COUNTS.get(&key).copied().unwrap_or(0);
+        assert!(times >= 10, "{key:?}: {times} times");
+    }
+}
+
 #[test]
 fn lists_are_the_same_for_the_same_seed() {
     assert_eq!(lists::list(3, 5), lists::list(3, 5));
@@ -229,7 +284,7 @@ fn lists_are_the_same_for_the_same_seed() {
         let mut lines = text.lines();
         assert!(lines.next().unwrap().starts_with("SLICE nums"));
         assert!(lines.next().unwrap().starts_with("BYTES names "));
-        for slice in ["SLICE last", "BYTES notes "] {
+        for slice in ["SLICE last", "BYTES notes ", "BYTES buffer ", "QUEUE "] {
             let sets = text.lines().any(|line| line.starts_with(slice));
             assert_eq!(sets, number >= 60);
         }
@@ -387,6 +442,36 @@ impl Tally {
     }
 }
 
+/// Carries out a command; the call that it is in the lists of demand 3, and its number. A run that takes a request is a Delivery on its date; one
+/// refused by 16 and a call that queues are none.
+fn stands_as(lent: &mut Lent, command: Command) -> Option<(Request, u64)> {
+    match command {
+        Command::Call(request) => {
+            let answer = call(lent, &request);
+            Some((request, answer))
+        }
+        Command::QueueDelivery(request) => {
+            common::queue(lent, &request);
+            None
+        }
+        Command::RunDelivery(date) => {
+            let request = Request::Delivery(delivery_of(&lent.queue.waiting[0], date));
+            let (answer, _) = ends(common::run(lent, date).outcome);
+            (answer != 16).then_some((request, answer))
+        }
+        _ => None,
+    }
+}
+
+/// A request's Delivery on a date.
+fn delivery_of(waiting: &Waiting, date: u64) -> Delivery {
+    Delivery {
+        warehouse: waiting.warehouse,
+        carrier: waiting.carrier,
+        date,
+    }
+}
+
 /// The claim after each call of lists from opened books; 2, 3 and 9 are never answered. With last orders that were all 0
 /// at opening, 13 is not either, and they are those of the tally and of a scan.
 #[test]
@@ -401,8 +486,8 @@ fn opened_lists_keep_to_the_tally() {
             let lent = &mut slices.lent;
             match (parse(line.as_bytes()), &mut tally) {
                 (Command::Lend(slice), _) => {
+                    zeros &= matches!(slice, Slice::Buffer(_) | Slice::Queue(_));
                     slices.set(slice);
-                    zeros = false;
                 }
                 (Command::Open, None) if ends(open(&lent.nums, &lent.names)).0 == 0 => {
                     let started = Tally::of(lent);
@@ -410,8 +495,10 @@ fn opened_lists_keep_to_the_tally() {
                     tally = Some(started);
                     counts[usize::from(zeros)] += 1;
                 }
-                (Command::Call(request), Some(tally)) => {
-                    let answer = call(lent, &request);
+                (command, Some(tally)) => {
+                    let Some((request, answer)) = stands_as(lent, command) else {
+                        continue;
+                    };
                     assert!(![2, 3, 9].contains(&answer));
                     if answer == 0 {
                         tally.add(&request);
@@ -504,9 +591,11 @@ fn texts_are_the_notes_newest_first() {
                     slices.set(slice);
                     since = Noted::of(&slices.lent);
                 }
-                Command::Call(request) => {
+                command => {
                     let before = slices.lent.notes.clone();
-                    let answer = call(&mut slices.lent, &request);
+                    let Some((request, answer)) = stands_as(&mut slices.lent, command) else {
+                        continue;
+                    };
                     let Some(since) = &mut since else {
                         assert!(slices.lent.notes == before);
                         unnoted += u64::from(answer == 14);
@@ -519,10 +608,130 @@ fn texts_are_the_notes_newest_first() {
                     }
                     since.check(&slices.lent);
                 }
-                _ => {}
             }
         }
     }
     assert!(noted > 2_000, "{noted} payments");
     assert!(unnoted > 400, "{unnoted} refused by 14");
+}
+
+/// The line of a run, written anew.
+fn line_of(oldest: &Waiting, date: u64, answer: &DeliveryAnswer) -> String {
+    let (queued, w, c) = (oldest.date, oldest.warehouse, oldest.carrier);
+    let mut line = format!("{queued}\t{w}\t{c}\t{date}");
+    match answer.outcome {
+        Outcome::Refused(refusal) => line += &format!("\t{}", refusal.number),
+        Outcome::Committed(figures) => {
+            line += &format!("\t{}", figures.skip_count);
+            for order in answer.orders {
+                line += &format!("\t{order}");
+            }
+        }
+    }
+    line + "\n"
+}
+
+/// The requests that wait, told by a plain queue beside the record.
+struct Turns {
+    /// Each with the number of the run that has to take it.
+    waiting: VecDeque<(Waiting, u64)>,
+    /// Runs that were not refused by 16.
+    runs: u64,
+}
+
+impl Turns {
+    /// Nothing where the record counts more than 16: every call on it is refused.
+    fn of(queue: &Queue) -> Option<Turns> {
+        let places = queue.waiting.get(..usize::try_from(queue.count).ok()?)?;
+        Some(Turns {
+            waiting: places.iter().copied().zip(1..).collect(),
+            runs: 0,
+        })
+    }
+
+    /// Behind j others, and so run number j + 1 after it.
+    fn queue(&mut self, lent: &mut Lent, request: &Delivery) {
+        let before = self.waiting.len() as u64;
+        let date_ok = (1..=6_342_969_600).contains(&request.date);
+        let outcome = SecondEngine.queue_delivery(lent, request);
+        if self.waiting.len() == PLACES || !date_ok {
+            let number = if self.waiting.len() == PLACES { 15 } else { 7 };
+            assert_eq!(ends(outcome), (number, 0));
+            return;
+        }
+        assert_eq!(outcome, Outcome::Committed(QueueFigures { before }));
+        let place = Waiting {
+            date: request.date,
+            warehouse: request.warehouse,
+            carrier: request.carrier,
+        };
+        self.waiting.push_back((place, self.runs + before + 1));
+    }
+
+    /// A run takes the oldest and does what its Delivery does on a twin of the book, on the run's date, whatever that answers.
+    fn run(&mut self, lent: &mut Lent, date: u64) {
+        let before = lent.clone();
+        let answer = common::run(lent, date);
+        if self.waiting.is_empty() || before.buffer.len() < 400 {
+            assert_eq!(ends(answer.outcome), (16, 0));
+            return;
+        }
+        self.runs += 1;
+        let (oldest, turn) = self.waiting.pop_front().unwrap();
+        assert_eq!(turn, self.runs);
+        let mut twin = before.clone();
+        let expected = SecondEngine.delivery(&mut twin, &delivery_of(&oldest, date));
+        assert_eq!(answer, expected);
+        assert!(lent.nums == twin.nums);
+        let line = line_of(&oldest, date, &answer);
+        assert_eq!(lent.buffer[..line.len()], *line.as_bytes());
+        assert_eq!(lent.buffer[line.len()..], before.buffer[line.len()..]);
+    }
+
+    /// The record has those who wait, the oldest first.
+    fn check(&self, queue: &Queue) {
+        let waiting: Vec<Waiting> = self.waiting.iter().map(|&(place, _)| place).collect();
+        assert_eq!(queue.count, waiting.len() as u64);
+        assert_eq!(queue.waiting[..waiting.len()], waiting);
+    }
+}
+
+/// First in, first out, over every list: who is queued behind j others is run by run number j + 1 after it, refusals by 16 uncounted, however many
+/// are queued meanwhile; none is lost or doubled.
+#[test]
+fn requests_are_run_in_turn() {
+    let (mut ran, mut long) = (0, 0);
+    for number in 0..2_000 {
+        let mut slices = Slices::default();
+        let mut turns = Turns::of(&slices.lent.queue);
+        for line in lists::list(31, number).lines() {
+            let lent = &mut slices.lent;
+            match (parse(line.as_bytes()), &mut turns) {
+                (Command::Lend(slice), _) => {
+                    let anew = matches!(slice, Slice::Queue(_));
+                    slices.set(slice);
+                    if anew {
+                        turns = Turns::of(&slices.lent.queue);
+                    }
+                }
+                (Command::QueueDelivery(request), Some(turns)) => turns.queue(lent, &request),
+                (Command::QueueDelivery(request), None) => {
+                    assert_eq!(common::queue(lent, &request), (15, 0));
+                }
+                (Command::RunDelivery(date), Some(turns)) => turns.run(lent, date),
+                (Command::RunDelivery(date), None) => {
+                    assert_eq!(ends(common::run(lent, date).outcome), (16, 0));
+                }
+                (command, _) => drop(stands_as(lent, command)),
+            }
+            if let Some(turns) = &turns {
+                turns.check(&slices.lent.queue);
+            }
+        }
+        let runs = turns.map_or(0, |turns| turns.runs);
+        ran += runs;
+        long += u64::from(runs > PLACES as u64);
+    }
+    assert!(ran > 1_000, "{ran} runs");
+    assert!(long > 25, "{long} lists with more than 16");
 }

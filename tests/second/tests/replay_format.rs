@@ -4,6 +4,7 @@ mod common;
 
 use common::*;
 use second::replay::{hex, sha256, Lent, Replay, SecondEngine};
+use second::{Queue, Waiting};
 
 #[test]
 fn digests() {
@@ -19,28 +20,83 @@ fn digests() {
     assert_eq!(digest(&vec![b'a'; 1_000_000]), million);
 }
 
-/// The hashed text of document REPLAY's example: nums 1, 2, 3 and names ALM.
+/// The hashed text of document REPLAY's example, nums 1, 2, 3 and names ALM; of nothing; and of the ends of the ranges.
 #[test]
 fn fingerprints() {
-    let of = |text: &str| hex::write(&sha256::digest(text.as_bytes())[..6]);
+    let of = |text: String| hex::write(&sha256::digest(text.as_bytes())[..6]);
+    let free = ",0,0,0";
     let lent = Lent {
         nums: vec![1, 2, 3],
         names: b"ALM".to_vec(),
         last: vec![0, 1],
         notes: b" ;".to_vec(),
+        buffer: b"\t\n".to_vec(),
+        queue: record(1, &[[100, 1, 3]]),
     };
-    let text = "nums=1,2,3\nnames=414c4d\nlast=0,1\nnotes=203b\n";
-    assert_eq!(lent.fingerprint(), of(text));
-    let empty = "nums=\nnames=\nlast=\nnotes=\n";
-    assert_eq!(Lent::default().fingerprint(), of(empty));
+    let text = "nums=1,2,3\nnames=414c4d\nlast=0,1\nnotes=203b\nbuffer=090a\nqueue=1,100,1,3";
+    assert_eq!(
+        lent.fingerprint(),
+        of(format!("{text}{}\n", free.repeat(15)))
+    );
+    let empty = "nums=\nnames=\nlast=\nnotes=\nbuffer=\nqueue=0";
+    let empty = of(format!("{empty}{}\n", free.repeat(16)));
+    assert_eq!(Lent::default().fingerprint(), empty);
+    let most = u64::MAX;
     let lent = Lent {
         nums: vec![-1, i64::MIN, 10],
         names: vec![0, 255],
         last: vec![-1],
         notes: vec![255, 10],
+        buffer: vec![0],
+        queue: record(most, &[[most; 3]; 16]),
     };
-    let text = "nums=-1,-9223372036854775808,10\nnames=00ff\nlast=-1\nnotes=ff0a\n";
-    assert_eq!(lent.fingerprint(), of(text));
+    let text = "nums=-1,-9223372036854775808,10\nnames=00ff\nlast=-1\nnotes=ff0a\nbuffer=00\nqueue=18446744073709551615";
+    let places = ",18446744073709551615".repeat(48);
+    assert_eq!(lent.fingerprint(), of(format!("{text}{places}\n")));
+}
+
+/// A record of this count with these places, date, warehouse and carrier each; the others are 0.
+fn record(count: u64, places: &[[u64; 3]]) -> Queue {
+    let mut queue = Queue {
+        count,
+        ..Queue::default()
+    };
+    for (place, &[date, warehouse, carrier]) in queue.waiting.iter_mut().zip(places) {
+        *place = Waiting {
+            date,
+            warehouse,
+            carrier,
+        };
+    }
+    queue
+}
+
+/// A waiting list and a buffer stand as commands set them, whatever is lent beside; a malformed command leaves them.
+#[test]
+fn queues_and_buffers() {
+    let mut engine = SecondEngine;
+    let mut replay = Replay::new(&mut engine);
+    let mut after = |command: &str| {
+        let answer = replay.step(command.as_bytes());
+        let lent = &replay.slices.lent;
+        (answer, lent.queue, lent.buffer.clone())
+    };
+    let none = Queue::default();
+    assert_eq!(after("SLICE nums 1 1 1 1 1 0"), (None, none, vec![]));
+    let two = record(1, &[[5, 6, 7], [8, 9, 10]]);
+    assert_eq!(after("QUEUE 1 5 6 7 8 9 10"), (None, two, vec![]));
+    let bad = |word: &str| Some(format!("BAD {word}"));
+    assert_eq!(after("QUEUE 1 5 6"), (bad("QUEUE"), two, vec![]));
+    assert_eq!(after("BYTES buffer 2eFf"), (None, two, vec![46, 255]));
+    assert_eq!(after("BYTES buffer x"), (bad("BYTES"), two, vec![46, 255]));
+    assert_eq!(after("SLICE nums 1 1 1 1 1 0"), (None, two, vec![46, 255]));
+    let full = record(u64::MAX, &[[1, 2, 3]; 16]);
+    let command = format!("QUEUE {}{}", u64::MAX, " 1 2 3".repeat(16));
+    assert_eq!(after(&command), (None, full, vec![46, 255]));
+    let command = format!("QUEUE 0{}", " 1 2 3".repeat(17));
+    assert_eq!(after(&command), (bad("QUEUE"), full, vec![46, 255]));
+    assert_eq!(after("QUEUE 017"), (None, record(17, &[]), vec![46, 255]));
+    assert_eq!(after("BYTES buffer -"), (None, record(17, &[]), vec![]));
 }
 
 /// A fingerprint follows the slices, also when they change between two answers.
@@ -62,10 +118,16 @@ fn fingerprints_follow_the_slices() {
     let third = open(&mut replay, "SLICE nums 1 2 3");
     let fourth = open(&mut replay, "SLICE last 0");
     let fifth = open(&mut replay, "BYTES notes 20");
+    let sixth = open(&mut replay, "BYTES buffer 20");
+    let seventh = open(&mut replay, "QUEUE 0 0 0 1");
+    let eighth = open(&mut replay, "QUEUE 1 0 0 1");
     assert_ne!(first, second);
     assert_eq!(second, third);
     assert_ne!(third, fourth);
     assert_ne!(fourth, fifth);
+    assert_ne!(fifth, sixth);
+    assert_ne!(sixth, seventh);
+    assert_ne!(seventh, eighth);
 }
 
 /// Last orders that no command has set are made anew at each head in range; others stay as they are.
@@ -173,12 +235,19 @@ fn answers_without_a_book() {
     let expected = ["OPEN 2 0", "N 2 0", "P 2 0", "D 2 0", "S 2 0", "L 2 0"];
     assert_eq!(replayed(text), expected);
     assert_eq!(replayed(text.trim_end()), expected);
+    let text = format!(
+        "RD 1\nQD 1 1 1\nQD 5 6 7\nQD 5 6 0\nRD 1\nBYTES buffer {}\nRD 1\nRD 1\nRD 1\n",
+        "2e".repeat(400)
+    );
+    let expected = [
+        "RD 16 0", "QD 0 0", "QD 0 1", "QD 7 0", "RD 16 0", "RD 2 0", "RD 2 0", "RD 16 0",
+    ];
+    assert_eq!(replayed(&text), expected);
 }
 
 #[test]
 fn passed_over() {
-    let text = "LEVEL 3\nLEVEL\nSLICE topup x\nBYTES buffer x\nBYTES buffer -\n\
-                QUEUE 0\nQUEUE 1 2 3 4\n\n";
+    let text = "LEVEL 3\nLEVEL\nSLICE topup x\nSLICE archive\nBYTES other x\n\n";
     assert_eq!(replayed(text), [""; 0]);
 }
 
@@ -201,6 +270,21 @@ const MALFORMED: &[&str] = &[
     "BYTES notes 4",
     "BYTES notes 4g",
     "BYTES notes 41 42",
+    "BYTES buffer",
+    "BYTES buffer 4",
+    "BYTES buffer 4g",
+    "BYTES buffer 41 42",
+    "QUEUE",
+    "QUEUE x",
+    "QUEUE -1",
+    "QUEUE +1",
+    "QUEUE 18446744073709551616",
+    "QUEUE 1 2",
+    "QUEUE 1 2 3",
+    "QUEUE 1 2 3 4 5",
+    "QUEUE 1 2 3 -4",
+    "QUEUE 1 2 3 18446744073709551616",
+    "QUEUE 1  2 3 4",
     "OPEN 1",
     "OPENING",
     "open",
@@ -228,8 +312,17 @@ const MALFORMED: &[&str] = &[
     "WRITE x D 1 1 1",
     "WRITE 10 D 1 1",
     "WRITE 10 OPEN",
-    "QD 1 1 1",
-    "RD 1",
+    "WRITE 20 QD 1 1 1",
+    "QD",
+    "QD 1 1",
+    "QD 1 1 1 1",
+    "QD 1 1 -1",
+    "QD 1 1 18446744073709551616",
+    "RD",
+    "RD 1 1",
+    "RD -1",
+    "RD 18446744073709551616",
+    "RD #1",
     "WRITE 18446744073709551615 D 1 1 1",
     " OPEN",
 ];

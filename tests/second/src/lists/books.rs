@@ -294,6 +294,7 @@ pub fn misfit(random: &mut Random) -> Option<Lent> {
         names,
         last: vec![0; customers],
         notes: vec![b' '; customers * TEXT_WIDTH],
+        ..Lent::default()
     })
 }
 
@@ -311,6 +312,7 @@ pub fn chaos(random: &mut Random) -> Lent {
         last: last.collect(),
         names: any_bytes(random, 70),
         notes: any_bytes(random, 70),
+        ..Lent::default()
     }
 }
 

@@ -6,14 +6,17 @@ pub mod last;
 pub mod names;
 pub mod notes;
 pub mod paid;
+pub mod queues;
 pub mod random;
 pub mod requests;
 pub mod stats;
 pub mod texts;
 pub mod totals;
+pub mod turns;
 
+use crate::queue::{Queue, Waiting, PLACES};
 use crate::replay::{hex, print, Lent};
-use crate::request::Request;
+use crate::request::{Delivery, Request};
 use random::Random;
 use requests::Asker;
 
@@ -28,7 +31,8 @@ const LAST_ORDERS: [usize; 5] = [40, 4, 4, 48, 4];
 const HISTORY: [usize; 5] = [50, 5, 10, 30, 5];
 const PAYMENTS: [usize; 5] = [4, 84, 4, 4, 4];
 
-/// In so many lists at the start of a run no command sets the last orders or the notes: they are made anew with each book.
+/// In so many lists at the start of a run no command sets what is lent beside the book: last orders and notes are made anew with each, buffer and
+/// queue are as they start or were left.
 const UNSET: u64 = 60;
 
 /// The list with this number of the run with this seed.
@@ -38,13 +42,17 @@ pub fn list(seed: u64, number: u64) -> String {
     if number >= UNSET {
         return text;
     }
-    let kept = text.split_inclusive('\n');
-    let made_anew = |line: &&str| line.starts_with("SLICE last") || line.starts_with("BYTES notes");
-    kept.filter(|line| !made_anew(line)).collect()
+    let beside = ["SLICE last", "BYTES notes", "BYTES buffer", "QUEUE"];
+    let sets_beside = |line: &&str| beside.iter().any(|command| line.starts_with(command));
+    let lines = text.split_inclusive('\n');
+    lines.filter(|line| !sets_beside(line)).collect()
 }
 
 fn any_list(random: &mut Random) -> String {
-    match random.weighted(&[22, 6, 18, 7, 6, 7, 7, 3, 3, 16, 7, 4, 12, 17, 12, 8]) {
+    let weights = [
+        22, 6, 18, 7, 6, 7, 7, 3, 3, 18, 9, 4, 12, 17, 12, 8, 12, 6, 14,
+    ];
+    match random.weighted(&weights) {
         0 => opened(random),
         1 => filled(random),
         2 => never_opened(random),
@@ -60,7 +68,10 @@ fn any_list(random: &mut Random) -> String {
         12 => half_cents(random),
         13 => close_names(random),
         14 => bad_credit(random),
-        _ => wrong_notes(random),
+        15 => wrong_notes(random),
+        16 => deliveries_later(random),
+        17 => refilled(random),
+        _ => odd_queues(random),
     }
 }
 
@@ -353,6 +364,107 @@ fn pay(random: &mut Random, text: &mut String, book: &books::Book, faulty: usize
     push(text, &Request::Payment(request));
 }
 
+/// Deliveries queued and run among other calls; now and then another buffer or another waiting list.
+fn deliveries_later(random: &mut Random) -> String {
+    let layout = queues::dimensions(random);
+    let new = random.percent(50);
+    let mut book = match new {
+        true => books::fresh(random, layout),
+        false => books::in_use(random, layout),
+    };
+    if random.percent(70) {
+        book.lent.notes.clear();
+    }
+    book.lent.buffer = queues::buffer(random);
+    book.lent.queue = queues::sound(random, &book);
+    let mut text = lend(&book.lent);
+    if new {
+        text.push_str("OPEN\n");
+    }
+    let asker = &mut Asker::new(&book, 20);
+    for _ in 0..10 + random.below(30) {
+        match random.weighted(&[30, 30, 30, 3, 1]) {
+            0 => queue(random, &mut text, &book),
+            1 => run(random, &mut text, 10),
+            2 => ask(random, &mut text, asker, &ORDERS, 1),
+            3 => text.push_str(&lend_buffer(&queues::buffer(random))),
+            _ => text.push_str(&lend_queue(&queues::sound(random, &book))),
+        }
+    }
+    text
+}
+
+/// A waiting list that fills up and empties again and again: far more than 16 go through it, each known by its date.
+fn refilled(random: &mut Random) -> String {
+    let layout = queues::dimensions(random);
+    let mut book = match random.percent(60) {
+        true => books::fresh(random, layout),
+        false => books::in_use(random, layout),
+    };
+    book.lent.notes.clear();
+    book.lent.buffer = queues::buffer(random);
+    let mut text = lend(&book.lent);
+    let mut date = 1 + random.below(1_000) as u64;
+    for _ in 0..3 + random.below(4) {
+        for _ in 0..*random.pick(&[1, 3, 15, 16, 17]) {
+            let mut request = queues::request(random, &book);
+            date += 1;
+            request.date = date;
+            push_queued(&mut text, &request);
+        }
+        for _ in 0..*random.pick(&[1, 2, 8, 15, 17]) {
+            run(random, &mut text, 3);
+        }
+        ask(random, &mut text, &mut Asker::new(&book, 20), &ORDERS, 3);
+    }
+    text
+}
+
+/// Waiting lists of any count and numbers and buffers of any length, on a sound or a damaged book; a few calls that queue and run on each.
+fn odd_queues(random: &mut Random) -> String {
+    let layout = queues::dimensions(random);
+    let mut book = match random.below(3) {
+        0 => books::fresh(random, layout),
+        _ => books::in_use(random, layout),
+    };
+    match random.below(8) {
+        0 => books::damage_head(random, &mut book),
+        1 | 2 => queues::damage_used(random, &mut book),
+        3 => books::damage(random, &mut book, 2),
+        _ => {}
+    }
+    book.lent.notes.clear();
+    let mut text = lend(&book.lent);
+    for _ in 0..10 {
+        text.push_str(&lend_queue(&queues::odd(random, &book)));
+        text.push_str(&lend_buffer(&queues::odd_buffer(random)));
+        for _ in 0..*random.pick(&[1, 2, 2, 3, PLACES + 1]) {
+            match random.percent(35) {
+                true => queue(random, &mut text, &book),
+                false => run(random, &mut text, 25),
+            }
+        }
+    }
+    text
+}
+
+/// A call that queues a request, some of them out of range.
+fn queue(random: &mut Random, text: &mut String, book: &books::Book) {
+    let mut request = queues::request(random, book);
+    queues::damage_request(random, book, &mut request);
+    push_queued(text, &request);
+}
+
+/// A run, in so many of a hundred cases on a date at or beside an end of the range.
+fn run(random: &mut Random, text: &mut String, odd: usize) {
+    let date = queues::date(random, odd);
+    text.push_str(&format!("RD {date}\n"));
+}
+
+fn push_queued(text: &mut String, r: &Delivery) {
+    text.push_str(&format!("QD {} {} {}\n", r.warehouse, r.carrier, r.date));
+}
+
 /// Request lines to read and requests to write; the book is not used.
 fn request_lines(random: &mut Random) -> String {
     let mut text = lend(&Lent::default());
@@ -403,6 +515,8 @@ pub fn lend(lent: &Lent) -> String {
     text.push_str(&format!("BYTES names {names}\n"));
     text.push_str(&lend_last(lent));
     text.push_str(&lend_notes(lent));
+    text.push_str(&lend_buffer(&lent.buffer));
+    text.push_str(&lend_queue(&lent.queue));
     text
 }
 
@@ -414,6 +528,24 @@ fn lend_last(lent: &Lent) -> String {
 /// The command that sets the notes.
 fn lend_notes(lent: &Lent) -> String {
     format!("BYTES notes {}\n", hex::token(&lent.notes))
+}
+
+/// The command that sets the buffer of a run.
+fn lend_buffer(buffer: &[u8]) -> String {
+    format!("BYTES buffer {}\n", hex::token(buffer))
+}
+
+/// The command that sets the waiting list, as far as its places are not 0.
+fn lend_queue(queue: &Queue) -> String {
+    let free = Waiting::default();
+    let set = queue.waiting.iter().rposition(|place| *place != free);
+    let mut text = format!("QUEUE {}", queue.count);
+    for place in &queue.waiting[..set.map_or(0, |last| last + 1)] {
+        let (date, warehouse, carrier) = (place.date, place.warehouse, place.carrier);
+        text.push_str(&format!(" {date} {warehouse} {carrier}"));
+    }
+    text.push('\n');
+    text
 }
 
 fn slice(name: &str, numbers: &[i64]) -> String {

@@ -1,7 +1,7 @@
 //! How often the random lists reach each answer of each call.
 
-use super::paid;
 use super::totals::HALF;
+use super::{paid, turns};
 use crate::checks;
 use crate::layout::{customer, district, Layout, NAMES_WIDTH};
 use crate::new_order::{exact_total, rates, PARTS};
@@ -15,7 +15,7 @@ use crate::Outcome;
 use std::collections::{BTreeMap, BTreeSet};
 
 /// Counts of answers, by word and number and, where it tells more, by kind. Searches by name count once more, by the word `=` and each kind that
-/// they are of, and payments by the word `;`.
+/// they are of, payments by the word `;`, and calls that queue or run a Delivery by the word `>`.
 pub type Counts = BTreeMap<(String, u64, String), u64>;
 
 /// Runs the lists through the second engine and counts the answers.
@@ -31,8 +31,10 @@ pub fn count(seed: u64, lists: u64) -> Counts {
                 let key = key(&answer, line, lent);
                 let searches = searched(&answer, line, lent).into_iter();
                 let payments = paid::kinds(key.1, line, &found).into_iter();
+                let turns = turns::kinds(key.1, line, &found).into_iter();
                 let kinds = searches.map(|kind| ("=", kind));
-                for (word, kind) in kinds.chain(payments.map(|kind| (";", kind))) {
+                let kinds = kinds.chain(payments.map(|kind| (";", kind)));
+                for (word, kind) in kinds.chain(turns.map(|kind| (">", kind))) {
                     let once_more = (word.to_string(), key.1, kind);
                     *counts.entry(once_more).or_insert(0) += 1;
                 }
@@ -51,9 +53,9 @@ fn key(answer: &str, command: &str, lent: &Lent) -> (String, u64, String) {
     let kind = match (tokens[0], number) {
         ("N" | "S", 9 | 10 | 13) => beside(number, command, lent),
         ("N" | "S", 0) => committed(command, lent, figure(2), figure(4)),
-        ("D", 0) if figure(2) == Some(10) => "all skipped".into(),
-        ("D", 0) if figure(2) == Some(0) => "none skipped".into(),
-        ("D", 0) => "some skipped".into(),
+        ("D" | "RD", 0) if figure(2) == Some(10) => "all skipped".into(),
+        ("D" | "RD", 0) if figure(2) == Some(0) => "none skipped".into(),
+        ("D" | "RD", 0) => "some skipped".into(),
         ("L", 0) if figure(2) == Some(0) => "none low".into(),
         ("L", 0) => "some low".into(),
         (_, 8 | 12) => match figure(2) {

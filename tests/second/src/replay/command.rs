@@ -1,6 +1,7 @@
 //! Reading the commands of a replay text: tokens parted by single spaces.
 
 use super::hex;
+use crate::queue::{Queue, Waiting, PLACES};
 use crate::request::{Delivery, Line, NewOrder, OrderStatus, Payment, Request, StockLevel, Who};
 
 /// The largest buffer that WRITE makes; a longer one is malformed.
@@ -13,6 +14,10 @@ pub enum Command {
     Lend(Slice),
     Open,
     Call(Request),
+    /// Queues a Delivery, on its date.
+    QueueDelivery(Delivery),
+    /// Runs the oldest Delivery that waits, on this date.
+    RunDelivery(u64),
     Read(Vec<u8>),
     Write(usize, Request),
     Help,
@@ -27,6 +32,8 @@ pub enum Slice {
     Names(Vec<u8>),
     Last(Vec<i64>),
     Notes(Vec<u8>),
+    Buffer(Vec<u8>),
+    Queue(Queue),
 }
 
 /// Reads one command, its end of line cut off.
@@ -47,10 +54,14 @@ fn parse_tokens(tokens: &[&str]) -> Option<Command> {
         ("SLICE", ["last", values @ ..]) => book_numbers(values).map(lend(Slice::Last)),
         ("BYTES", ["names", token]) => hex::read(token).map(lend(Slice::Names)),
         ("BYTES", ["notes", token]) => hex::read(token).map(lend(Slice::Notes)),
-        ("BYTES", ["names" | "notes", ..]) => None,
-        ("SLICE" | "BYTES", [_, ..]) | ("LEVEL" | "QUEUE", _) => Some(Command::Nothing),
+        ("BYTES", ["buffer", token]) => hex::read(token).map(lend(Slice::Buffer)),
+        ("BYTES", ["names" | "notes" | "buffer", ..]) => None,
+        ("QUEUE", [count, places @ ..]) => parse_queue(count, places),
+        ("SLICE" | "BYTES", [_, ..]) | ("LEVEL", _) => Some(Command::Nothing),
         ("HELP", []) => Some(Command::Help),
         ("OPEN", []) => Some(Command::Open),
+        ("QD", request) => parse_delivery(request).map(Command::QueueDelivery),
+        ("RD", [date]) => number(date).map(Command::RunDelivery),
         ("READ", [token]) => hex::read(token).map(Command::Read),
         ("WRITE", [cap, request @ ..]) => {
             let cap = number(cap).filter(|&cap| cap <= LARGEST_BUFFER)?;
@@ -63,6 +74,26 @@ fn parse_tokens(tokens: &[&str]) -> Option<Command> {
 /// The command that lends a slice of this name.
 fn lend<T>(slice: fn(Vec<T>) -> Slice) -> impl Fn(Vec<T>) -> Command {
     move |values| Command::Lend(slice(values))
+}
+
+/// The count as it is stored, then up to 16 times date, warehouse and carrier; the other places are 0.
+fn parse_queue(count: &str, places: &[&str]) -> Option<Command> {
+    let mut queue = Queue {
+        count: number(count)?,
+        ..Queue::default()
+    };
+    let triples = places.chunks_exact(3);
+    if !triples.remainder().is_empty() || triples.len() > PLACES {
+        return None;
+    }
+    for (place, triple) in queue.waiting.iter_mut().zip(triples) {
+        *place = Waiting {
+            date: number(triple[0])?,
+            warehouse: number(triple[1])?,
+            carrier: number(triple[2])?,
+        };
+    }
+    Some(Command::Lend(Slice::Queue(queue)))
 }
 
 /// A request in the tokens of its call.

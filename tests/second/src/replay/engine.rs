@@ -2,8 +2,10 @@
 
 use super::{hex, sha256};
 use crate::answer::{
-    DeliveryAnswer, NewOrderFigures, OrderStatusAnswer, Outcome, PaymentFigures, StockLevelFigures,
+    DeliveryAnswer, NewOrderFigures, OrderStatusAnswer, Outcome, PaymentFigures, QueueFigures,
+    StockLevelFigures,
 };
+use crate::queue::Queue;
 use crate::request::{Delivery, NewOrder, OrderStatus, Payment, Request, StockLevel};
 
 /// The slices lent to every call, as the call before left them.
@@ -15,6 +17,10 @@ pub struct Lent {
     pub last: Vec<i64>,
     /// The text of each customer.
     pub notes: Vec<u8>,
+    /// Where a run writes its line.
+    pub buffer: Vec<u8>,
+    /// The Deliveries that wait.
+    pub queue: Queue,
 }
 
 impl Lent {
@@ -27,8 +33,8 @@ impl Lent {
     /// A line for each slice: numbers with commas between, bytes in lower-case hex.
     fn hashed_text(&self) -> Vec<u8> {
         let numbers = self.nums.len() + self.last.len();
-        let bytes = self.names.len() + self.notes.len();
-        let mut text = Vec::with_capacity(3 * numbers + 2 * bytes + 32);
+        let bytes = self.names.len() + self.notes.len() + self.buffer.len();
+        let mut text = Vec::with_capacity(3 * numbers + 2 * bytes + 160);
         text.extend_from_slice(b"nums=");
         put_numbers(&mut text, &self.nums);
         text.extend_from_slice(b"\nnames=");
@@ -37,9 +43,23 @@ impl Lent {
         put_numbers(&mut text, &self.last);
         text.extend_from_slice(b"\nnotes=");
         hex::put(&mut text, &self.notes);
+        text.extend_from_slice(b"\nbuffer=");
+        hex::put(&mut text, &self.buffer);
+        text.extend_from_slice(b"\nqueue=");
+        text.extend_from_slice(queue_text(&self.queue).as_bytes());
         text.push(b'\n');
         text
     }
+}
+
+/// The count and the places' numbers, commas between.
+fn queue_text(queue: &Queue) -> String {
+    let mut text = queue.count.to_string();
+    for place in &queue.waiting {
+        let (date, warehouse, carrier) = (place.date, place.warehouse, place.carrier);
+        text.push_str(&format!(",{date},{warehouse},{carrier}"));
+    }
+    text
 }
 
 fn put_numbers(text: &mut Vec<u8>, numbers: &[i64]) {
@@ -67,6 +87,9 @@ pub trait Engine {
     fn delivery(&mut self, lent: &mut Lent, request: &Delivery) -> DeliveryAnswer;
     fn order_status<'a>(&mut self, lent: &'a Lent, request: &OrderStatus) -> OrderStatusAnswer<'a>;
     fn stock_level(&mut self, lent: &Lent, request: &StockLevel) -> Outcome<StockLevelFigures>;
+    /// The request's date is that of the queuing.
+    fn queue_delivery(&mut self, lent: &mut Lent, request: &Delivery) -> Outcome<QueueFigures>;
+    fn run_delivery(&mut self, lent: &mut Lent, date: u64) -> DeliveryAnswer;
     fn read(&mut self, line: &[u8]) -> Outcome<Request>;
     fn write(&mut self, request: &Request, buffer: &mut [u8]) -> Outcome<u64>;
 }
@@ -97,6 +120,15 @@ impl Engine for SecondEngine {
 
     fn stock_level(&mut self, lent: &Lent, request: &StockLevel) -> Outcome<StockLevelFigures> {
         crate::stock_level(&lent.nums, &lent.names, request)
+    }
+
+    fn queue_delivery(&mut self, lent: &mut Lent, request: &Delivery) -> Outcome<QueueFigures> {
+        crate::queue_delivery(&mut lent.queue, request)
+    }
+
+    fn run_delivery(&mut self, lent: &mut Lent, date: u64) -> DeliveryAnswer {
+        let (queue, buffer) = (&mut lent.queue, &mut lent.buffer);
+        crate::run_delivery(&mut lent.nums, &lent.names, queue, date, buffer)
     }
 
     fn read(&mut self, line: &[u8]) -> Outcome<Request> {

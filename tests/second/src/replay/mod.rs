@@ -66,6 +66,8 @@ impl Slices {
                 self.lent.notes = notes;
                 self.notes_set = true;
             }
+            Slice::Buffer(buffer) => self.lent.buffer = buffer,
+            Slice::Queue(queue) => self.lent.queue = queue,
         }
     }
 
@@ -113,6 +115,12 @@ impl<'e, E: Engine> Replay<'e, E> {
             Command::Bad(word) => return Some(format!("BAD {word}")),
             Command::Open => print::open(self.engine.open(lent)),
             Command::Call(request) => print::call(self.engine, lent, &request),
+            Command::QueueDelivery(request) => {
+                print::queue_delivery(self.engine.queue_delivery(lent, &request))
+            }
+            Command::RunDelivery(date) => {
+                print::delivery("RD", &self.engine.run_delivery(lent, date))
+            }
             Command::Read(line) => print::read(self.engine.read(&line)),
             Command::Write(cap, request) => {
                 let mut buffer = vec![UNWRITTEN; cap];

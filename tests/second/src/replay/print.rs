@@ -6,7 +6,7 @@
 
 use super::engine::{Engine, Lent};
 use super::{hex, UNWRITTEN};
-use crate::answer::{DeliveryAnswer, OrderStatusAnswer, Outcome, Refusal};
+use crate::answer::{DeliveryAnswer, OrderStatusAnswer, Outcome, QueueFigures, Refusal};
 use crate::request::{Request, Who};
 use std::fmt::Display;
 
@@ -21,7 +21,7 @@ pub fn call(engine: &mut impl Engine, lent: &mut Lent, request: &Request) -> Str
             Outcome::Committed(f) => format!("P 0 {} {}", f.customer, f.balance),
             Outcome::Refused(refusal) => refused("P", refusal),
         },
-        Request::Delivery(r) => delivery(&engine.delivery(lent, r)),
+        Request::Delivery(r) => delivery("D", &engine.delivery(lent, r)),
         Request::OrderStatus(r) => order_status(&engine.order_status(lent, r)),
         Request::StockLevel(r) => match engine.stock_level(lent, r) {
             Outcome::Committed(f) => format!("L 0 {}", f.low_stock),
@@ -62,10 +62,18 @@ fn refused(word: &str, refusal: Refusal) -> String {
     format!("{word} {} {}", refusal.number, refusal.detail)
 }
 
-fn delivery(answer: &DeliveryAnswer) -> String {
+pub fn queue_delivery(outcome: Outcome<QueueFigures>) -> String {
+    match outcome {
+        Outcome::Committed(f) => format!("QD 0 {}", f.before),
+        Outcome::Refused(refusal) => refused("QD", refusal),
+    }
+}
+
+/// A Delivery, or a run by its own word.
+pub fn delivery(word: &str, answer: &DeliveryAnswer) -> String {
     let mut text = match answer.outcome {
-        Outcome::Committed(f) => format!("D 0 {} {}", f.skip_count, f.skip_mark),
-        Outcome::Refused(refusal) => refused("D", refusal),
+        Outcome::Committed(f) => format!("{word} 0 {} {}", f.skip_count, f.skip_mark),
+        Outcome::Refused(refusal) => refused(word, refusal),
     };
     let committed = matches!(answer.outcome, Outcome::Committed(_));
     if committed || answer.orders != [0; 10] {

@@ -73,6 +73,7 @@ pub fn fresh() -> Lent {
         names,
         last: vec![0; LAST_ORDERS],
         notes: vec![b' '; NOTE_BYTES],
+        ..Lent::default()
     }
 }
 
@@ -84,6 +85,7 @@ pub fn program() -> Lent {
         names: book.names,
         last: book.last,
         notes: book.notes,
+        ..Lent::default()
     }
 }
 
@@ -195,6 +197,35 @@ pub fn call(lent: &mut Lent, request: &Request) -> (u64, u64) {
     if answer != (0, 0) || reads_only {
         assert!(*lent == before, "changed by {request:?}");
     }
+    answer
+}
+
+/// Queues a Delivery; gives number and detail. Refused, it must have changed nothing; committed, nothing but the record.
+pub fn queue(lent: &mut Lent, request: &Delivery) -> (u64, u64) {
+    let before = lent.clone();
+    let answer = ends(SecondEngine.queue_delivery(lent, request));
+    let queue = lent.queue;
+    if answer != (0, 0) {
+        assert!(queue == before.queue, "changed by a refused {request:?}");
+    }
+    assert!(*lent == Lent { queue, ..before }, "changed by {request:?}");
+    answer
+}
+
+/// Runs the oldest Delivery that waits. Refused by 16, it must have changed nothing; refused otherwise, nothing but record and buffer.
+pub fn run(lent: &mut Lent, date: u64) -> DeliveryAnswer {
+    let mut expected = lent.clone();
+    let answer = SecondEngine.run_delivery(lent, date);
+    let (number, _) = ends(answer.outcome);
+    assert!(number == 0 || answer.orders == [0; 10]);
+    if number == 0 {
+        expected.nums.clone_from(&lent.nums);
+    }
+    if number != 16 {
+        expected.queue = lent.queue;
+        expected.buffer.clone_from(&lent.buffer);
+    }
+    assert!(*lent == expected, "changed by a run on {date}");
     answer
 }
 

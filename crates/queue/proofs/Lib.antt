@@ -1,0 +1,3 @@
+-- The laws of the crate, and what its walks share.
+pub mod Steps
+pub mod Lending
