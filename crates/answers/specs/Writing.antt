@@ -2,15 +2,15 @@
 -- Assumes nothing.
 use mathlib.Core.Path.{_≡_}
 use mathlib.Core.Bool.{Bool, _&&_, cond}
-use mathlib.Core.List.{List, [], _++_}
+use mathlib.Core.List.{List, []}
 use Prim.Native.Nat.{ℕ}
 use lib.Dec.{leb}
 use lib.IntN.{ℤ}
-use lib.ListN.{length, drop}
+use lib.ListN.{length}
 use Rattle.model.specs.declared.RequestOutcome.{RequestOutcome}
 use Rattle.model.specs.declared.RequestOutcome.the-variants as RequestCase
 use Rattle.model.specs.Answer.{requestSays}
-use Rattle.model.specs.Text.{textOf}
+use Rattle.model.specs.Text.{textOf, onFront}
 use Rattle.model.specs.Names.{byNumber}
 use Rattle.model.specs.Request.{Request, newOrder, payment, delivery, orderStatus, stockLevel}
 use Rattle.model.specs.RequestLine.{letter}
@@ -34,7 +34,7 @@ hasRoom buffer shown = leb 2048 (length buffer) && leb (length shown) 75
 
 -- a line at the front of a buffer where there is room, and the length that is answered
 abbrev pub withLine : Bool → List ℕ → List ℕ → List ℕ
-withLine t text buffer = cond t (text ++ drop (length text) buffer) buffer
+withLine t text buffer = cond t (onFront text buffer) buffer
 
 abbrev pub lengthIf : Bool → List ℕ → ℕ
 lengthIf t text = cond t (length text) 0

@@ -8,17 +8,18 @@ use native.Mathlib.Omega.{arith}
 use lib.Count.{ones}
 use lib.ListN.{length, getD, take, length-append, length-take, List·getD-append}
 use lib.Seq.{length-take-le, getD-take, getD-append-add, getD-at}
-use borrow.Author.Tests.{eq-eqb, ne-eqb, eqb-true}
+use borrow.Author.Tests.{le-leb, lt-ltb, eq-eqb, ne-eqb, eqb-true}
 use Rattle.model.specs.declared.Queue.{Queue}
 use Rattle.model.specs.declared.Waiting.{Waiting}
+use Rattle.model.specs.Numbers.{maxDate}
 use Rattle.model.specs.Lists.{upTo}
 use Rattle.model.specs.Head.{dims}
 use Rattle.model.specs.Delivery.{deliveryFault, oldestTen, markOf}
-use Rattle.model.specs.Queue.{free, queueFault, queueAfter, firstIn, runQueue, runBook, resultLine, runBuffer}
+use Rattle.model.specs.Queue.{free, queueFault, queueAfter, runFault, firstIn, runQueue, runBook, resultLine, runBuffer}
 use Rattle.model.specs.Request.{Request, Lent, faultOf, after}
 use Rattle.model.specs.Tally.{Done, afterAll, doneAll}
 use Rattle.model.specs.Events.{Event, call, queue, run, Yard, takes, afterEvent, afterEvents, standsAs, standAs, doneAs, Run, runs, joins, queued, leaves, taken}
-use Rattle.model.specs.QueueClaim.{deliveryFor, Serves, noRun, RunInTurn, waitingIn, FirstInFirstOut, LeavesTheList, RefusedKeeps, PlacesStay, RunsStand, DemandWithRuns, LineFits}
+use Rattle.model.specs.QueueClaim.{deliveryFor, Serves, noRun, RunInTurn, waitingIn, FirstInFirstOut, LeavesTheList, QueueServes, RefusedKeeps, PlacesStay, RunsStand, DemandWithRuns, LineFits}
 use Rattle.model.proofs.Demand.{demand}
 use Rattle.model.proofs.QueueLaws.{queue-room, run-room, first-leaves, moves, stands, by-answer, numbers-fit, runOf, serves}
 
@@ -33,6 +34,14 @@ unfolding runQueue
 leaves-the-list q buffer h e =
     let r = run-room q buffer (eqb-true _ _ e) in
     rw e (sym (append-nil (waitingIn q)) ∙ first-leaves q h (r .0) (r .1) .in-turn)
+
+-- 15, 7 and 16 refuse nothing else
+pub queue-serves : QueueServes
+unfolding queueFault runFault
+queue-serves = (
+  λ q x r h k. rw (lt-ltb (q .count) 16 r, le-leb 1 (x .date) h, le-leb (x .date) maxDate k),
+  λ q buffer h k l. rw (le-leb 1 (q .count) h, le-leb (q .count) 16 k, le-leb 400 (length buffer) l),
+)
 
 -- by 15, 7 and 16 nothing changes
 pub refused-keeps : RefusedKeeps

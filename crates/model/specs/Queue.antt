@@ -11,7 +11,7 @@ use Rattle.model.specs.declared.Refusal.{Refusal}
 use Rattle.model.specs.declared.Waiting.{Waiting}
 use Rattle.model.specs.Tests.{within, chk, fault}
 use Rattle.model.specs.Numbers.{maxDate}
-use Rattle.model.specs.Text.{signeds, positives, lineText}
+use Rattle.model.specs.Text.{signeds, positives, lineText, onFront}
 use Rattle.model.specs.Answer.{Answer, committed, refused, answerBy, leftBy}
 use Rattle.model.specs.Delivery.{deliveryAnswer, deliveryOrders, deliveryBook}
 
@@ -71,9 +71,6 @@ unfoldable pub resultLine : Waiting → ℕ → Answer → List ℕ → List ℕ
 resultLine x date a orders = lineText (signeds (pos (x .date) ∷ pos (x .warehouse) ∷ pos (x .carrier) ∷ pos date ∷ ended a orders))
 
 -- "writes one result line: .. the rest of the buffer kept"
-abbrev pub onFront : List ℕ → List ℕ → List ℕ
-onFront text buffer = text ++ drop (length text) buffer
-
 unfoldable pub runBuffer : List ℤ → List ℕ → Queue → ℕ → List ℕ → List ℕ
 runBuffer b names q date buffer =
     leftBy (runFault q buffer)

@@ -11,6 +11,7 @@ use lib.ListN.{length, getD, take, drop}
 use Rattle.model.specs.declared.Delivery.{Delivery}
 use Rattle.model.specs.declared.Queue.{Queue}
 use Rattle.model.specs.declared.Waiting.{Waiting}
+use Rattle.model.specs.Numbers.{maxDate}
 use Rattle.model.specs.Text.{decimal, signed}
 use Rattle.model.specs.Head.{dims}
 use Rattle.model.specs.Answer.{Answer, committed, refused}
@@ -90,6 +91,12 @@ FirstInFirstOut =
 -- "A refused Delivery leaves the list too": after every run but one refused by 16 the others wait, whatever it answers
 abbrev pub LeavesTheList : Type 0
 LeavesTheList = (q : Queue) (buffer : List ℕ) → length (q .waiting) ≡ 16 → takes q buffer ≡ true → waitingIn q ≡ firstIn q ∷ waitingIn (runQueue q buffer)
+
+-- 15, 7 and 16 refuse nothing else: a request joins where there is room and its date is one, and a run takes one where one waits and the buffer fits
+abbrev pub QueueServes : Type 0
+QueueServes =
+    ((q : Queue) (x : Waiting) → q .count < 16 → 1 ≤ x .date → x .date ≤ maxDate → queueFault q x .number ≡ 0)
+    × ((q : Queue) (buffer : List ℕ) → 1 ≤ q .count → q .count ≤ 16 → 400 ≤ length buffer → takes q buffer ≡ true)
 
 -- by 15, 7 and 16 nothing changes
 abbrev pub RefusedKeeps : Type 0

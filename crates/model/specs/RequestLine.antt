@@ -20,7 +20,7 @@ use Rattle.model.specs.declared.Selection.the-variants as Selection
 use Rattle.model.specs.declared.WriteOutcome.{WriteOutcome}
 use Rattle.model.specs.declared.WriteOutcome.the-variants as WriteCase
 use Rattle.model.specs.Tests.{every, allOf, chk, fault}
-use Rattle.model.specs.Text.{isNumber, valueOf, hasDigits, decimal, parted, lineText}
+use Rattle.model.specs.Text.{isNumber, valueOf, hasDigits, decimal, parted, lineText, onFront}
 use Rattle.model.specs.Names.{Who, byNumber, byName}
 use Rattle.model.specs.Answer.{Answer, committed, refused, answerBy, leftBy}
 use Rattle.model.specs.Request.{Request, newOrder, payment, delivery, orderStatus, stockLevel}
@@ -174,7 +174,7 @@ unfoldable pub writeAnswer : List ℕ → Request → Answer
 writeAnswer buffer r = answerBy (writeFault buffer r) (pos (length (lineOf r)) ∷ [])
 
 unfoldable pub writeBuffer : List ℕ → Request → List ℕ
-writeBuffer buffer r = leftBy (writeFault buffer r) (lineOf r ++ drop (length (lineOf r)) buffer) buffer
+writeBuffer buffer r = leftBy (writeFault buffer r) (onFront (lineOf r) buffer) buffer
 
 -- document 01's number and values for each case of the code's answers
 abbrev pub writeSays : WriteOutcome → Answer

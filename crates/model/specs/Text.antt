@@ -6,7 +6,7 @@ use mathlib.Core.List.{List, [], _∷_, _++_, map}
 use Prim.Native.Nat.{ℕ, zero, suc, _+_, _-_, _*_, _/_, _%_}
 use lib.Dec.{leb, ltb, eqb}
 use lib.IntN.{ℤ, pos, negsuc}
-use lib.ListN.{length, getD}
+use lib.ListN.{length, getD, drop}
 use Rattle.model.specs.Tests.{every, allOf}
 
 -- "Numbers: decimal, at most ten digits, no leading zero but "0" itself."
@@ -60,6 +60,10 @@ lineText fs = joined fs ++ (10 ∷ [])
 -- a line of a letter and numbers
 abbrev pub textOf : ℕ → List ℤ → List ℕ
 textOf x zs = lineText ((x ∷ []) ∷ signeds zs)
+
+-- a text at the front of a buffer, the rest of it kept
+abbrev pub onFront : List ℕ → List ℕ → List ℕ
+onFront text buffer = text ++ drop (length text) buffer
 
 -- the parts of a text between bytes x, and the fields of a line without its byte 10
 abbrev pub onto : ℕ → List (List ℕ) → List (List ℕ)

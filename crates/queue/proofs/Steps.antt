@@ -16,9 +16,9 @@ use Rattle.model.specs.declared.QueueOutcome.the-variants as QueueCase
 use Rattle.model.specs.declared.Waiting.{Waiting}
 use Rattle.model.specs.Tests.{within}
 use Rattle.model.specs.Numbers.{maxDate}
-use Rattle.model.specs.Text.{tabbed, lineText}
+use Rattle.model.specs.Text.{tabbed, lineText, onFront}
 use Rattle.model.specs.Answer.{deliverySays}
-use Rattle.model.specs.Queue.{free, queueFault, queueAnswer, queueAfter, runFault, firstIn, runRequest, movedUp, runQueue, runAnswer, runOrders, runBook, onFront, resultLine, runBuffer}
+use Rattle.model.specs.Queue.{free, queueFault, queueAnswer, queueAfter, runFault, firstIn, runRequest, movedUp, runQueue, runAnswer, runOrders, runBook, resultLine, runBuffer}
 use Rattle.model.specs.Contracts.{DeliveryCall, QueueCall, RunCall}
 use Rattle.text.specs.Writing.{Wrote}
 use Rattle.text.proofs.Putting.{wrote-then}
