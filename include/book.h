@@ -1,10 +1,12 @@
 /* The order book for feed cooperatives: the proved library's calls, from C (C99 or newer) and C++ (C++11 or newer).
 
-   A book is two slices that the caller owns and lends to each call: numbers (int64_t) and name bytes. Beside them stand two more. The last order
+   A book is two slices that the caller owns and lends to each call: numbers (int64_t) and name bytes. Beside them stand three more. The last order
    of each customer (int64_t), all 0 with a new book: New-Order writes it, Order-Status reads it, no other call takes it. The notes, a text of 500
-   bytes for each customer, all spaces with a new book: Payment writes it, no other call takes it. include/book_layout.h says how long the slices
-   are for given sizes, where each row starts, and what every number may hold. A call judges the slices that it takes, whatever they hold. It is
-   committed, carried out whole; or refused by a number, and then changes no number and no byte of them.
+   bytes for each customer, all spaces with a new book: Payment writes it, no other call takes it. The top-up table (int64_t), a margin and a lift
+   for each item, TPC-C's being 10 and 91: opening and New-Order read it, no call writes it, and the caller may change it between calls.
+   include/book_layout.h says how long the slices are for given sizes, where each row starts, and what every number may hold. A call judges the
+   slices that it takes, whatever they hold. It is committed, carried out whole; or refused by a number, and then changes no number and no byte of
+   them.
 
    Deliveries may wait their turn in a struct book_queue that the caller owns and lends as well, all 0 when it is new: queuing puts a request behind
    those that wait, a run takes the oldest, carries it out and writes a line about it to a lent buffer; no other call takes either. Here alone a
@@ -16,24 +18,26 @@
        struct book_pay_answer paid = book_pay(&book, &request);
        if (paid.refusal != BOOK_COMMITTED) ...
 
-   Make the book by book_lent, then set its last orders and notes by name; set a request to 0 by memset, then its fields by name: a later version
-   may add fields, and a caller written so still compiles. Beneath are the flat functions that the library exports; their parameters may change
-   with BOOK_VERSION.
+   Make the book by book_lent, then set its last orders, notes and top-up table by name; set a request to 0 by memset, then its fields by name: a
+   later version may add fields, and a caller written so still compiles. Beneath are the flat functions that the library exports; their parameters
+   may change with BOOK_VERSION.
 
    Memory.
    - NULL goes with length 0, for every slice: an empty book is refused by 2, an order without lines by 8, an empty last name by 10, New-Order
-     and Order-Status without the last orders by 13, Payment without the notes by 14, a run without a buffer by 16. Everything else that is handed
-     over by a pointer is not NULL; an array that a flat function fills has the length that its type says.
+     and Order-Status without the last orders by 13, Payment without the notes by 14, a run without a buffer by 16, opening and New-Order without
+     the top-up table by 17. Everything else that is handed over by a pointer is not NULL; an array that a flat function fills has the length that
+     its type says.
    - Slices that are only read may overlap. What a call writes (numbers, last orders in New-Order, notes in Payment, a waiting list, a buffer,
      what comes out) must not overlap with anything else lent to that call.
    - The library keeps nothing between calls, has no global state, allocates nothing and writes no file.
    - Threads: one writer a book, its last orders and notes included. While book_order, book_pay, book_deliver or book_deliver_next runs on a
-     book, no other call may run on it; the calls that only read may run side by side. Different books do not know of each other. One call at a
-     time on a waiting list: book_deliver_later takes no book and may run beside calls on any, but not beside another call on the same list.
+     book, no other call may run on it; the calls that only read may run side by side. Different books do not know of each other; one top-up table
+     may be lent with several at once, as long as nobody changes it. One call at a time on a waiting list: book_deliver_later takes no book and
+     may run beside calls on any, but not beside another call on the same list.
    - A crash inside a call (the process killed, the power gone) can leave a half-written book, or last orders or notes that do not go with it,
      where their memory outlives the process, as in a mapped file: the stores of a call are not one step of the machine. A waiting list can be
-     half-written too, or have lost a request that was not carried out, or still have one that was. Keep a copy of all four slices and the waiting
-     list, or the list of requests, from before the call. */
+     half-written too, or have lost a request that was not carried out, or still have one that was. Keep a copy of the slices and the waiting
+     list, or the list of requests with the top-up table that each order was lent, from before the call. */
 #ifndef BOOK_H
 #define BOOK_H
 
@@ -44,10 +48,10 @@
 
 /* The version of this header, and what book_version() of the library answers: it rises whenever a function, a struct or a refusal here changes.
    Where the shared library is loaded, refuse to start unless book_version() == BOOK_VERSION; its soname has the number as well. */
-#define BOOK_VERSION 4
+#define BOOK_VERSION 5
 
-/* What a call answers first: 0, or the first number of this list that fits, in the list's order but that New-Order looks at 13 before 11 and 12,
-   Payment at 14 straight after 2, queuing at 15 before 7, and a run at 16 before all others. The detail is the place (from 1) of the first
+/* What a call answers first: 0, or the first number of this list that fits, in the list's order but that New-Order looks at 13 and 17 before 11 and
+   12, Payment at 14 straight after 2, queuing at 15 before 7, and a run at 16 before all others. The detail is the place (from 1) of the first
    offending line of an order at 8 and 12, and 0 otherwise, also where the number of lines itself offends. */
 enum book_refusal {
     BOOK_COMMITTED = 0,
@@ -67,11 +71,13 @@ enum book_refusal {
                               order number - 1, or (Order-Status) the order to be shown holds a value out of range */
     BOOK_BAD_NOTES = 14,   /* Payment: the notes' length is not 5,000 * W * C; their bytes are not judged */
     BOOK_QUEUE_FULL = 15,  /* queuing: 16 Deliveries wait, or the waiting list counts more than that */
-    BOOK_NOT_RUN = 16      /* a run: no Delivery waits, the waiting list counts more than 16, or the buffer has fewer than 400 bytes; nothing was
+    BOOK_NOT_RUN = 16,     /* a run: no Delivery waits, the waiting list counts more than 16, or the buffer has fewer than 400 bytes; nothing was
                               taken off the list */
+    BOOK_BAD_TOPUP = 17    /* opening, New-Order: the top-up table has not 2 * I numbers, or any row of it, also of an item that the order does not
+                              name, has a margin that is not 0 to 9,990, a lift that is not 10 to 9,999, or both together above 10,000 */
 };
 
-/* All that is lent but a waiting list: the numbers, the name bytes, the last orders and the notes, each with its length. */
+/* All that is lent but a waiting list: the numbers, the name bytes, the last orders, the notes and the top-up table, each with its length. */
 struct book {
     int64_t *nums;
     size_t nums_len;
@@ -81,6 +87,8 @@ struct book {
     size_t last_len;
     uint8_t *notes; /* by customer a text of 500 bytes; book_lent leaves it empty */
     size_t notes_len;
+    const int64_t *topup; /* by item a margin and a lift; book_lent leaves it empty */
+    size_t topup_len;
 };
 
 /* Who: a customer number, or a last name of 1 to 16 bytes, which is compared after filling it up with spaces. Among namesakes of a district,
@@ -160,12 +168,14 @@ struct book_open_answer {
     uint64_t detail;
 };
 
-/* The order's number in its district, and the total that is billed, to the nearest cent, an exact half upwards. No total is kept in the book. */
+/* The order's number in its district; the total that is billed, to the nearest cent, an exact half upwards; and how many of its lines lifted, found
+   fewer than their item's margin left and added its lift. Neither total nor lifts are kept in the book. */
 struct book_order_answer {
     uint64_t refusal;
     uint64_t detail;
     uint64_t order;
     uint64_t total;
+    uint64_t lifts;
 };
 
 /* The customer who paid, and the balance afterwards, in cents: below 0 where more was paid than delivered. */
@@ -257,13 +267,16 @@ extern "C" {
 /* The version of the library. */
 uint64_t book_version(void);
 
-/* Opening: whether the book is new and in range. It writes nothing. out: refusal, detail. */
-void book_opening(const int64_t *nums, size_t nums_len, const uint8_t *names, size_t names_len, uint64_t out[2]);
+/* Opening: whether the book is new and in range, and the top-up table as it has to be. It writes nothing. out: refusal, detail. */
+void book_opening(const int64_t *nums, size_t nums_len, const uint8_t *names, size_t names_len, const int64_t *topup, size_t topup_len,
+                  uint64_t out[2]);
 
-/* New-Order; committed, it makes the order's number the customer's in last. out: refusal, detail, order, total. */
-void book_new_order(int64_t *nums, size_t nums_len, const uint8_t *names, size_t names_len, int64_t *last, size_t last_len,
-                    uint64_t warehouse, uint64_t district, uint64_t customer, uint64_t date, const struct book_line *lines, size_t lines_len,
-                    uint64_t out[4]);
+/* New-Order; committed, it makes the order's number the customer's in last. Each line in turn takes its quantity from what is on hand of its item at
+   its supplying warehouse; where that leaves fewer than the item's margin in topup, the item's lift is added, once. out: refusal, detail, order,
+   total, lifts (how many lines had theirs added). */
+void book_new_order(int64_t *nums, size_t nums_len, const uint8_t *names, size_t names_len, int64_t *last, size_t last_len, const int64_t *topup,
+                    size_t topup_len, uint64_t warehouse, uint64_t district, uint64_t customer, uint64_t date, const struct book_line *lines,
+                    size_t lines_len, uint64_t out[5]);
 
 /* Payment; committed, where the customer's credit is 1 it puts a note at the left of the customer's text in notes. The note is six numbers:
    customer, custdistrict, custwarehouse, district, warehouse, amount, in decimal, a space between two and a semicolon behind the last. The old
@@ -357,7 +370,7 @@ static inline uint64_t book_date(int64_t unix_time)
     return (uint64_t)unix_time + UINT64_C(2208988801);
 }
 
-/* A book of these two slices. The last orders, the notes, and whatever else a later version lends, are empty: set them by name. */
+/* A book of these two slices. The last orders, the notes, the top-up table, and whatever else a later version lends, are empty: set them by name. */
 static inline struct book book_lent(int64_t *nums, size_t nums_len, const uint8_t *names, size_t names_len)
 {
     struct book book;
@@ -373,7 +386,7 @@ static inline struct book_open_answer book_open(const struct book *book)
 {
     uint64_t out[2];
     struct book_open_answer a;
-    book_opening(book->nums, book->nums_len, book->names, book->names_len, out);
+    book_opening(book->nums, book->nums_len, book->names, book->names_len, book->topup, book->topup_len, out);
     a.refusal = out[0];
     a.detail = out[1];
     return a;
@@ -381,14 +394,15 @@ static inline struct book_open_answer book_open(const struct book *book)
 
 static inline struct book_order_answer book_order(struct book *book, const struct book_order_request *q)
 {
-    uint64_t out[4];
+    uint64_t out[5];
     struct book_order_answer a;
-    book_new_order(book->nums, book->nums_len, book->names, book->names_len, book->last, book->last_len, q->warehouse, q->district,
-                   q->customer, q->date, q->lines, q->lines_len, out);
+    book_new_order(book->nums, book->nums_len, book->names, book->names_len, book->last, book->last_len, book->topup, book->topup_len,
+                   q->warehouse, q->district, q->customer, q->date, q->lines, q->lines_len, out);
     a.refusal = out[0];
     a.detail = out[1];
     a.order = out[2];
     a.total = out[3];
+    a.lifts = out[4];
     return a;
 }
 

@@ -4,12 +4,13 @@
    A book is numbers (int64_t) and name bytes. The numbers are, in this order: the head; the warehouses; the districts, 10 a warehouse; the
    customers, C a district; the items; the stocks, I a warehouse; the order slots, O a district; the history slots. Rows lie by warehouse, then
    district, then number, and everything is counted from 1: warehouse 1, district 1, customer 1, order 1. Beside the book lie the last orders
-   (int64_t), one number for each customer, and the notes, a text of 500 bytes for each, both in the order of the customer rows.
+   (int64_t), one number for each customer, and the notes, a text of 500 bytes for each, both in the order of the customer rows; and the top-up
+   table (int64_t), two numbers for each item.
 
    To make a book: choose sizes that book_sizes_ok accepts, allocate book_numbers and book_name_bytes, call book_blank, then set what the depots
    know: taxes, discounts, credit, prices, stock on hand (each at its row and column) and the names (book_set_name). book_open of book.h then
-   accepts it. The last orders are book_last_numbers zeros, as calloc gives them; the notes are book_note_bytes spaces, set by memset. C99 or newer,
-   C++11 or newer. */
+   accepts it. The last orders are book_last_numbers zeros, as calloc gives them; the notes are book_note_bytes spaces, set by memset; the top-up
+   table is book_topup_numbers numbers, which book_usual_topup sets where no item has a margin and a lift of its own. C99 or newer, C++11 or newer. */
 #ifndef BOOK_LAYOUT_H
 #define BOOK_LAYOUT_H
 
@@ -42,6 +43,12 @@ struct book_sizes {
 #define BOOK_MAX_PRICE 99999                    /* price: 0 to; 0 marks an item that is not sold */
 #define BOOK_MAX_ON_HAND 9999                   /* on hand: 0 to */
 #define BOOK_MAX_LOTS INT64_C(9999999999)       /* lots to date: 0 to */
+#define BOOK_MAX_MARGIN 9990                    /* an item's margin: 0 to */
+#define BOOK_MIN_LIFT 10                        /* an item's lift */
+#define BOOK_MAX_LIFT 9999
+#define BOOK_MAX_MARGIN_AND_LIFT 10000          /* an item's margin and lift together: up to */
+#define BOOK_USUAL_MARGIN 10                    /* TPC-C's margin and lift, of every item */
+#define BOOK_USUAL_LIFT 91
 #define BOOK_MIN_DATE 1                         /* 1900-01-01 00:00:00 */
 #define BOOK_MAX_DATE INT64_C(6342969600)       /* 2100-12-31 23:59:59; a delivery date in the book also 0, for none yet */
 #define BOOK_MIN_CARRIER 1                      /* a carrier in the book also 0, for none yet */
@@ -120,7 +127,11 @@ enum book_column {
     BOOK_HISTORY_WAREHOUSE,
     BOOK_HISTORY_DATE,
     BOOK_HISTORY_AMOUNT,
-    BOOK_HISTORY_WIDTH
+    BOOK_HISTORY_WIDTH,
+    /* an item in the top-up table */
+    BOOK_TOPUP_MARGIN = 0,
+    BOOK_TOPUP_LIFT,
+    BOOK_TOPUP_WIDTH
 };
 #define BOOK_NAME_WIDTH (2 * BOOK_NAME_BYTES) /* a customer's name bytes: last name, then first name, each filled up with spaces */
 #define BOOK_NOTE_WIDTH 500                   /* a customer's bytes of the notes */
@@ -200,7 +211,14 @@ static inline size_t book_note_at(const struct book_sizes *s, uint64_t warehouse
     return (size_t)((book_districts_before(warehouse, district) * s->customers + (customer - 1)) * BOOK_NOTE_WIDTH);
 }
 
-/* How many numbers, and how many name bytes, a book has, how many numbers its last orders and how many bytes its notes are. */
+/* Where an item's row starts in the top-up table: where fewer than its margin would be left on hand by a line of an order, its lift is added. */
+static inline size_t book_topup_at(const struct book_sizes *s, uint64_t item)
+{
+    (void)s;
+    return (size_t)((item - 1) * BOOK_TOPUP_WIDTH);
+}
+
+/* How many numbers, and how many name bytes, a book has, how many numbers its last orders and its top-up table, and how many bytes its notes are. */
 static inline size_t book_numbers(const struct book_sizes *s)
 {
     return book_history_at(s, s->histories + 1);
@@ -219,6 +237,21 @@ static inline size_t book_last_numbers(const struct book_sizes *s)
 static inline size_t book_note_bytes(const struct book_sizes *s)
 {
     return book_note_at(s, s->warehouses + 1, 1, 1);
+}
+
+static inline size_t book_topup_numbers(const struct book_sizes *s)
+{
+    return book_topup_at(s, s->items + 1);
+}
+
+/* A top-up table for whoever keeps TPC-C's 10 and 91: the same row for each item. topup has book_topup_numbers. */
+static inline void book_usual_topup(const struct book_sizes *s, int64_t *topup)
+{
+    uint64_t i;
+    for (i = 1; i <= s->items; i++) {
+        topup[book_topup_at(s, i) + BOOK_TOPUP_MARGIN] = BOOK_USUAL_MARGIN;
+        topup[book_topup_at(s, i) + BOOK_TOPUP_LIFT] = BOOK_USUAL_LIFT;
+    }
 }
 
 /* A new book's start: the head, every next order number 1, every other number 0, every name byte a space. nums has book_numbers, names has

@@ -1,10 +1,11 @@
 """The order book for feed cooperatives, from Python: the proved library over ctypes, nothing else.
 
 `bin/build library` of the repository makes the shared library that this module loads (or name one in BOOK_LIBRARY). x86-64 Linux only.
-A Book owns its numbers, its names, its last orders, its notes and its waiting list of Deliveries. Every call is committed and answers its figures,
-or raises Refused and has changed nothing; but a run whose Delivery is refused takes it off the waiting list all the same (see run_delivery). One
-call at a time runs on a Book, also from threads: it has a lock. To keep a book, write b.nums, b.names, b.last, b.notes and b.queue to a file; to
-have it back, make a Book of the same sizes and read them into it (file.readinto); it is not opened again, since opening is for a new book.
+A Book owns its numbers, its names, its last orders, its notes, its top-up table and its waiting list of Deliveries. Every call is committed and
+answers its figures, or raises Refused and has changed nothing; but a run whose Delivery is refused takes it off the waiting list all the same (see
+run_delivery). One call at a time runs on a Book, also from threads: it has a lock. To keep a book, write b.nums, b.names, b.last, b.notes, b.topup
+and b.queue to a file; to have it back, make a Book of the same sizes and read them into it (file.readinto); it is not opened again, since opening is
+for a new book.
 """
 
 import ctypes
@@ -13,7 +14,7 @@ import os
 import threading
 from typing import List, NamedTuple, Union
 
-VERSION = 4  # BOOK_VERSION of include/book.h
+VERSION = 5  # BOOK_VERSION of include/book.h
 
 _path = os.environ.get("BOOK_LIBRARY") or os.path.join(
     os.path.dirname(os.path.dirname(os.path.realpath(__file__))), "target", "shared", "libbook.so"
@@ -43,6 +44,7 @@ REFUSALS = {
     14: "the notes have a wrong length",
     15: "sixteen Deliveries wait, or the waiting list counts more",
     16: "no Delivery waits, the waiting list counts more than 16, or the buffer has under 400 bytes",
+    17: "the top-up table has a wrong length, or some item's margin or lift, or both together, are out of range",
 }
 
 
@@ -112,6 +114,7 @@ class StockLevel(NamedTuple):
 class Ordered(NamedTuple):
     order: int
     total: int
+    lifts: int  # how many of its lines topped their stock up
 
 
 class Paid(NamedTuple):
@@ -206,6 +209,8 @@ _ITEM = ("price",)
 _STOCK = ("on_hand", "lots", "order_count", "remote_count")
 _ORDER = ("customer", "entry_date", "carrier", "line_count", "all_local", "waiting")
 _HISTORY = ("customer", "custdistrict", "custwarehouse", "district", "warehouse", "date", "amount")
+_TOPUP = ("margin", "lift")
+_USUAL_TOPUP = (10, 91)  # TPC-C's, of every item
 _NAME_BYTES = 32  # of a customer; the last orders have one number for as many
 _NOTE_BYTES = 500  # of a customer
 
@@ -287,10 +292,11 @@ def _padded(part):
 class Book:
     """A new book: the next order numbers are 1, all else is 0 and the names are spaces. Set the rows and names, then open it.
 
-    nums, names, last and notes are ctypes arrays, lent to the calls as they are. last has for each customer its largest order number, 0 for none:
-    new_order writes it, order_status reads it, the other calls do not take it. notes has for each customer a text of 500 bytes, spaces at first:
-    payment puts a note at its left where the customer's credit is 1, the other calls do not take it. queue is a ctypes structure, the count and 16
-    places of the Deliveries that wait: queue_delivery and run_delivery alone take it.
+    nums, names, last, notes and topup are ctypes arrays, lent to the calls as they are. last has for each customer its largest order number, 0 for
+    none: new_order writes it, order_status reads it, the other calls do not take it. notes has for each customer a text of 500 bytes, spaces at
+    first: payment puts a note at its left where the customer's credit is 1, the other calls do not take it. topup has for each item a margin and a
+    lift, 10 and 91 at first: open and new_order read it, no call writes it, and it may be changed between calls (topup_of). queue is a ctypes
+    structure, the count and 16 places of the Deliveries that wait: queue_delivery and run_delivery alone take it.
     """
 
     def __init__(self, sizes):
@@ -301,6 +307,7 @@ class Book:
         customers = name_bytes // _NAME_BYTES
         self.last = (ctypes.c_int64 * customers)()
         self.notes = (ctypes.c_uint8 * (customers * _NOTE_BYTES))()
+        self.topup = (ctypes.c_int64 * (len(_TOPUP) * self.sizes.items))(*_USUAL_TOPUP * self.sizes.items)
         self.queue = _CQueue()
         self._lock = threading.Lock()
         ctypes.memset(self.names, ord(" "), len(self.names))
@@ -331,6 +338,11 @@ class Book:
 
     def history(self, history):
         return Row(self.nums, _places(self.sizes, history=history)[8], _HISTORY)
+
+    def topup_of(self, item):
+        """An item's margin and lift: where a line leaves fewer than the margin on hand, the lift is added."""
+        _places(self.sizes, item=item)
+        return Row(self.topup, len(_TOPUP) * (item - 1), _TOPUP)
 
     def set_name(self, warehouse, district, customer, last, first):
         """Last and first name, each of at most 16 bytes 32 to 126; the last name is not empty and starts with no space."""
@@ -364,12 +376,13 @@ class Book:
             return _answer(call, lent + parameters, figures, *others)
 
     def open(self):
-        """Refused by 3 unless the book is new and in range. It writes nothing."""
-        self._call(_lib.book_opening, [], 0)
+        """Refused by 3 unless the book is new and in range, by 17 unless the top-up table is as it has to be. It writes nothing."""
+        self._call(_lib.book_opening, _slice(self.topup), 0)
 
     def new_order(self, warehouse, district, customer, date, lines):
         order = _numbers(warehouse=warehouse, district=district, customer=customer, date=date)
-        return Ordered(*self._call(_lib.book_new_order, _slice(self.last) + order + _lines(lines), 2))
+        lent = _slice(self.last) + _slice(self.topup)
+        return Ordered(*self._call(_lib.book_new_order, lent + order + _lines(lines), 3))
 
     def payment(self, warehouse, district, custwarehouse, custdistrict, who, date, amount):
         places = _numbers(warehouse=warehouse, district=district, custwarehouse=custwarehouse, custdistrict=custdistrict)

@@ -21,7 +21,9 @@ def small_book():
 
 
 def figures(answer):
-    """An answer's figures, in the order of its line."""
+    """An answer's figures, in the order of its line; the lifts of an order are not printed."""
+    if isinstance(answer, book.Ordered):
+        return [answer.order, answer.total]
     return [answer] if isinstance(answer, int) else [figure for part in answer for figure in figures(part)]
 
 

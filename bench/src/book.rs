@@ -88,6 +88,7 @@ pub fn make(size: &Size) -> Lent {
         names: names(random, size),
         notes: vec![b' '; layout.note_bytes()],
         buffer: vec![b' '; RESULT_BYTES],
+        topup: layout.usual_topup(),
         nums,
         ..Lent::default()
     }

@@ -128,7 +128,9 @@ impl<E: Engine> Contender for InBook<E> {
         match request {
             Request::NewOrder(r) => {
                 let outcome = self.engine.new_order(&mut self.lent, r);
-                put_figures(sink, outcome, |f| [f.order as i64, f.total as i64]);
+                put_figures(sink, outcome, |f| {
+                    [f.order, f.total, f.lifts].map(|n| n as i64)
+                });
             }
             Request::Payment(r) => {
                 let outcome = self.engine.payment(&mut self.lent, r);

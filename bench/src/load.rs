@@ -28,9 +28,10 @@ fn row(keys: &[i64], columns: &[i64]) -> Vec<i64> {
 }
 
 fn load_items(db: &Database, lent: &Lent, layout: &Layout) {
-    let mut items = insert(db, "item", 2);
+    let mut items = insert(db, "item", 4);
     for item in 1..=layout.items {
-        items.run(&[item as i64, lent.nums[layout.price(item)]]);
+        let price = lent.nums[layout.price(item)];
+        items.run(&row(&[item as i64, price], &lent.topup[layout.topup(item)]));
     }
 }
 

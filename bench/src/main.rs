@@ -15,6 +15,7 @@ mod sql;
 mod sqlite;
 mod sums;
 mod tables;
+mod topup;
 
 use book::Size;
 
@@ -48,11 +49,13 @@ fn measured(most: usize) -> (&'static str, measure::Measured) {
     checked();
     let mut books = compared(most);
     tables::passes(&books);
+    let table = topup::table(64);
+    tables::table(&table);
     tables::searches(&books);
     tables::notes(&books);
     let waiting = measure::waiting(256);
     tables::waiting(&books, &waiting);
-    tables::missed(&books, &waiting);
+    tables::missed(&books, &waiting, &table);
     books.pop().expect("a book")
 }
 

@@ -176,7 +176,7 @@ pub fn book(size: &Size, fewer: usize) -> Measured {
 }
 
 /// A step's contenders in turn, another one first each time, the proved library being number 0.
-fn step(rounds: usize, contenders: usize, mut time: impl FnMut(usize, usize) -> f64) -> Step {
+pub fn step(rounds: usize, contenders: usize, mut time: impl FnMut(usize, usize) -> f64) -> Step {
     let mut spent = vec![Vec::new(); contenders];
     for round in 0..rounds {
         for turn in 0..contenders {
@@ -195,7 +195,7 @@ fn step(rounds: usize, contenders: usize, mut time: impl FnMut(usize, usize) -> 
 /// The pass over a district's last orders, on the requests of New-Order.
 fn pass(field: &mut Field, asker: &mut Asker, rounds: usize) -> Step {
     let batches: Vec<_> = (0..rounds)
-        .map(|_| refused_by_12(asker.batch(Call::NewOrder, 100), field.layout.items))
+        .map(|_| of_one_line(asker.batch(Call::NewOrder, 100)))
         .collect();
     let Engines { proved, second, .. } = &mut field.engines;
     let (lent, layout) = (&field.summed.lent, &field.layout);
@@ -208,7 +208,12 @@ fn pass(field: &mut Field, asker: &mut Asker, rounds: usize) -> Step {
                 assert!(by_hand::passes(black_box(lent), layout, r));
                 0
             }),
-            _ => looked_at(requests, |r| sums::used_rows(black_box(lent), layout, r)),
+            _ => looked_at(requests, |r| {
+                let Request::NewOrder(r) = r else {
+                    panic!("an order is asked for");
+                };
+                sums::last_orders(black_box(lent), layout, (r.warehouse, r.district))
+            }),
         }
     })
 }
@@ -326,16 +331,15 @@ fn nobodys(name: &mut Vec<u8>) {
     name.push(b'Q');
 }
 
-/// Orders of one line whose item the book lacks: each is refused behind the pass and writes nothing.
-fn refused_by_12(requests: Vec<Request>, items: usize) -> Vec<Request> {
-    let mut refused = requests;
-    for request in &mut refused {
+/// The orders with their first line alone.
+fn of_one_line(requests: Vec<Request>) -> Vec<Request> {
+    let mut short = requests;
+    for request in &mut short {
         if let Request::NewOrder(r) = request {
             r.lines.truncate(1);
-            r.lines[0].item = items as u64 + 1;
         }
     }
-    refused
+    short
 }
 
 /// Microseconds of a look at the last orders of each request's district, after a turn that is not timed.
@@ -345,13 +349,15 @@ fn looked_at(requests: &[Request], look: impl Fn(&Request) -> i64) -> f64 {
     micros(requests.len(), batch)
 }
 
-/// Microseconds of the pass inside an engine's New-Order: what the requests take, refused by 12 behind it, less what the same take where
-/// the slice is a number short, refused by 13 before it.
+/// Microseconds of the pass inside an engine's New-Order: what the requests take where the top-up table is a number short, refused by 17 behind
+/// it, less what the same take where the last orders are too, refused by 13 before it.
 fn own_pass<E: Engine>(book: &mut InBook<E>, requests: &[Request]) -> f64 {
+    let cut_table = book.lent.topup.pop();
     let behind = carried(book, requests);
     let cut = book.lent.last.pop();
     let before = carried(book, requests);
     book.lent.last.extend(cut);
+    book.lent.topup.extend(cut_table);
     behind - before
 }
 
@@ -407,13 +413,13 @@ fn turned(requests: &[Delivery], mut turn: impl FnMut()) -> f64 {
 }
 
 /// Microseconds a request of an engine, after a turn that is not timed.
-fn carried<E: Engine>(book: &mut InBook<E>, requests: &[Request]) -> f64 {
+pub fn carried<E: Engine>(book: &mut InBook<E>, requests: &[Request]) -> f64 {
     black_box(book.batch(requests));
     micros(requests.len(), || book.batch(requests))
 }
 
 /// Microseconds for each of `count` in a run.
-fn micros<T>(count: usize, run: impl FnOnce() -> T) -> f64 {
+pub fn micros<T>(count: usize, run: impl FnOnce() -> T) -> f64 {
     let start = Instant::now();
     black_box(run());
     start.elapsed().as_secs_f64() * 1e6 / count as f64

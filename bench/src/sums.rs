@@ -1,4 +1,4 @@
-//! The memory limit: a plain sum over what a call scans, its used rows and the last orders, as they lie in the book.
+//! The memory limit: a plain sum over what a call scans, its used rows, the last orders and the top-up table, as they lie in the book.
 
 use crate::book::used_numbers;
 use crate::requests::Call;
@@ -12,10 +12,13 @@ pub fn scans(call: Call) -> bool {
     !call.pays_by_number() && call != Call::Mix
 }
 
-/// The sum over what a request scans. Of a New-Order that is its district's last orders alone.
+/// The sum over what a request scans. Of a New-Order that is its district's last orders and the whole top-up table.
 pub fn used_rows(lent: &Lent, layout: &Layout, request: &Request) -> i64 {
     match request {
-        Request::NewOrder(r) => last_orders(lent, layout, (r.warehouse, r.district)),
+        Request::NewOrder(r) => {
+            let last = last_orders(lent, layout, (r.warehouse, r.district));
+            last.wrapping_add(topup(lent))
+        }
         Request::Payment(r) => {
             let home = (r.customer_warehouse as usize, r.customer_district as usize);
             let terminal = layout.district(r.warehouse as usize, r.district as usize);
@@ -64,6 +67,11 @@ fn customers(lent: &Lent, layout: &Layout, (w, d): (usize, usize), who: &Who) ->
 /// The last orders of a district's customers.
 pub fn last_orders(lent: &Lent, layout: &Layout, (w, d): (u64, u64)) -> i64 {
     sum(&lent.last[layout.last_orders_of(w as usize, d as usize)])
+}
+
+/// The top-up table.
+pub fn topup(lent: &Lent) -> i64 {
+    sum(&lent.topup)
 }
 
 /// The last names of all customers of a status's district.

@@ -5,7 +5,7 @@ CREATE TABLE district (d_w_id INTEGER, d_id INTEGER, d_tax INTEGER, d_ytd INTEGE
 CREATE TABLE customer (c_w_id INTEGER, c_d_id INTEGER, c_id INTEGER, c_credit INTEGER, c_discount INTEGER, c_balance INTEGER,
     c_ytd_payment INTEGER, c_payment_cnt INTEGER, c_delivery_cnt INTEGER, c_last BLOB, c_first BLOB,
     PRIMARY KEY (c_w_id, c_d_id, c_id)) WITHOUT ROWID;
-CREATE TABLE item (i_id INTEGER PRIMARY KEY, i_price INTEGER);
+CREATE TABLE item (i_id INTEGER PRIMARY KEY, i_price INTEGER, i_margin INTEGER, i_lift INTEGER);
 CREATE TABLE stock (s_w_id INTEGER, s_i_id INTEGER, s_quantity INTEGER, s_ytd INTEGER, s_order_cnt INTEGER, s_remote_cnt INTEGER,
     PRIMARY KEY (s_w_id, s_i_id)) WITHOUT ROWID;
 CREATE TABLE orders (o_w_id INTEGER, o_d_id INTEGER, o_id INTEGER, o_c_id INTEGER, o_entry_d INTEGER, o_carrier_id INTEGER,

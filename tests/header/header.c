@@ -1,6 +1,6 @@
 /* The headers tried as a caller would: the layout against the proved `layout`, the ranges against opening and the calls, the columns against what the
-   calls write, the last orders, the notes and the waiting list by what is refused and written, the calls on a struct book against the flat functions,
-   NULL with length 0. Compiles as C99 and as C++11. */
+   calls write, the last orders, the notes, the waiting list and the top-up table by what is refused and written, the calls on a struct book against the
+   flat functions, NULL with length 0. Compiles as C99 and as C++11. */
 #include <stdio.h>
 #include <stdlib.h>
 #include "book.h"
@@ -72,6 +72,7 @@ static void layout(void)
     see(book_name_at(&s, w, d, c) == out[11], "name");
     see(book_last_numbers(&s) * BOOK_NAME_WIDTH == out[3] && book_last_at(&s, w, d, c) * BOOK_NAME_WIDTH == out[11], "last orders lie as names do");
     see(book_note_bytes(&s) == book_last_numbers(&s) * BOOK_NOTE_WIDTH && book_note_at(&s, w, d, c) == book_last_at(&s, w, d, c) * BOOK_NOTE_WIDTH, "notes lie so too");
+    see(book_topup_numbers(&s) == 2 * s.items && book_topup_at(&s, i) == 2 * (i - 1), "two numbers for each item");
 }
 
 /* ---- A small book: W 2, C 3, I 4, O 5, H 6; everything set ---- */
@@ -81,12 +82,14 @@ static int64_t nums[8608], saved[8608];
 static uint8_t names[2 * 10 * 3 * BOOK_NAME_WIDTH];
 static int64_t last[2 * 10 * 3], saved_last[2 * 10 * 3];
 static uint8_t notes[2 * 10 * 3 * BOOK_NOTE_WIDTH], saved_notes[2 * 10 * 3 * BOOK_NOTE_WIDTH];
+static int64_t topup[2 * 4], saved_topup[2 * 4];
 
 static struct book lent(void)
 {
     struct book book = book_lent(nums, book_numbers(&small), names, book_name_bytes(&small));
     book.last = last, book.last_len = book_last_numbers(&small);
     book.notes = notes, book.notes_len = book_note_bytes(&small);
+    book.topup = topup, book.topup_len = book_topup_numbers(&small);
     return book;
 }
 
@@ -95,6 +98,7 @@ static struct book fresh(void)
     uint64_t w, d, c, i;
     memset(last, 0, sizeof last);
     memset(notes, ' ', sizeof notes);
+    book_usual_topup(&small, topup);
     book_blank(&small, nums, names);
     for (w = 1; w <= small.warehouses; w++) {
         nums[book_warehouse_at(&small, w) + BOOK_WAREHOUSE_TAX] = 1000;
@@ -232,7 +236,7 @@ static void story(void)
     memset(&deliver, 0, sizeof deliver), memset(&pay, 0, sizeof pay), memset(&ask, 0, sizeof ask), memset(&low, 0, sizeof low);
 
     /* 1,000 + 1,200 cents, 1 in 100 off, 15 in 100 taxes: 2,504.7, to the nearest cent */
-    see(ordered.refusal == BOOK_COMMITTED && ordered.detail == 0 && ordered.order == 1 && ordered.total == 2505, "an order");
+    see(ordered.refusal == BOOK_COMMITTED && ordered.detail == 0 && ordered.order == 1 && ordered.total == 2505 && ordered.lifts == 0, "an order");
     see(at(row, BOOK_ORDER_CUSTOMER) == 3 && at(row, BOOK_ORDER_ENTRY_DATE) == 100 && at(row, BOOK_ORDER_CARRIER) == 0 &&
             at(row, BOOK_ORDER_LINE_COUNT) == 2 && at(row, BOOK_ORDER_ALL_LOCAL) == 0 && at(row, BOOK_ORDER_WAITING) == 1,
         "the order's row");
@@ -531,6 +535,95 @@ static void notes_moved(void)
     see(memcmp(saved_notes, notes, sizeof notes) == 0, "a refused payment puts no note");
 }
 
+/* ---- The top-up table ---- */
+
+/* Opening and New-Order accept the length book_topup_numbers; the other calls take any. */
+static void topup_length(void)
+{
+    static int64_t longer[sizeof topup / sizeof *topup + 2];
+    size_t right = book_topup_numbers(&small), lengths[6] = {right, right - 1, right + 1, right - 2, right + 2, 0};
+    for (size_t k = 0; k < right + 2; k++) longer[k] = k % 2 == BOOK_TOPUP_LIFT ? BOOK_USUAL_LIFT : BOOK_USUAL_MARGIN;
+    see(memcmp(longer, topup, sizeof topup) == 0, "the usual table");
+    for (int k = 0; k < 6; k++) {
+        struct book book = fresh();
+        uint64_t refusal = k == 0 ? BOOK_COMMITTED : BOOK_BAD_TOPUP;
+        book.topup = lengths[k] == 0 ? NULL : longer, book.topup_len = lengths[k];
+        see(book_open(&book).refusal == refusal && book_open(&book).detail == 0, "the table's length at opening");
+        memcpy(saved, nums, sizeof nums), memcpy(saved_last, last, sizeof last);
+        see(orders(&book) == refusal, "the table's length for an order");
+        see((memcmp(saved, nums, sizeof nums) == 0 && memcmp(saved_last, last, sizeof last) == 0) == (k != 0), "a refused order changes nothing");
+        see(pays(&book) == BOOK_COMMITTED && delivers(&book) == BOOK_COMMITTED && asks_status(&book) == BOOK_COMMITTED && asks_level(&book) == BOOK_COMMITTED,
+            "calls that do not take the table");
+    }
+    {
+        struct book book = book_lent(nums, book_numbers(&small), names, book_name_bytes(&small));
+        fresh();
+        book.last = last, book.last_len = book_last_numbers(&small);
+        see(book.topup == NULL && book.topup_len == 0 && book_open(&book).refusal == BOOK_BAD_TOPUP && orders(&book) == BOOK_BAD_TOPUP, "book_lent lends none");
+    }
+}
+
+/* A row of any item is accepted, at opening and for an order of item 1, just where the ranges say so; the table is left as it is. */
+static void topup_rows(void)
+{
+    const int64_t margins[9] = {0, 1, BOOK_USUAL_MARGIN, BOOK_MAX_MARGIN - 1, BOOK_MAX_MARGIN, BOOK_MAX_MARGIN + 1, -1, INT64_MIN, INT64_MAX};
+    const int64_t lifts[10] = {BOOK_MIN_LIFT - 1, BOOK_MIN_LIFT, BOOK_MIN_LIFT + 1, BOOK_MAX_LIFT - 1, BOOK_MAX_LIFT, BOOK_MAX_LIFT + 1, 0, -1, INT64_MIN,
+                               INT64_MAX};
+    for (uint64_t i = 1; i <= small.items; i++)
+        for (int k = 0; k < 90; k++) {
+            struct book book = fresh();
+            int64_t margin = margins[k % 9], lift = lifts[k / 9];
+            bool ok = 0 <= margin && margin <= BOOK_MAX_MARGIN && BOOK_MIN_LIFT <= lift && lift <= BOOK_MAX_LIFT &&
+                      margin + lift <= BOOK_MAX_MARGIN_AND_LIFT;
+            topup[book_topup_at(&small, i) + BOOK_TOPUP_MARGIN] = margin, topup[book_topup_at(&small, i) + BOOK_TOPUP_LIFT] = lift;
+            memcpy(saved_topup, topup, sizeof topup);
+            see(book_open(&book).refusal == (ok ? BOOK_COMMITTED : BOOK_BAD_TOPUP), "a row at opening");
+            see(orders(&book) == (ok ? BOOK_COMMITTED : BOOK_BAD_TOPUP), "a row for an order");
+            see(memcmp(saved_topup, topup, sizeof topup) == 0, "the table is left");
+        }
+}
+
+/* Lines in turn, each by its item's own row: what is on hand, and how many lifted. */
+static void topup_lifts(void)
+{
+    const struct book_sizes *s = &small;
+    struct book book = fresh();
+    struct book_line lines[5] = {{1, 1, 10}, {1, 1, 1}, {2, 1, 5}, {2, 2, 6}, {1, 1, 10}};
+    struct book_order_request q = order_of(1, 4, 3, lines, 5);
+    struct book_order_answer a;
+    topup[book_topup_at(s, 1) + BOOK_TOPUP_MARGIN] = 40, topup[book_topup_at(s, 1) + BOOK_TOPUP_LIFT] = 10;
+    topup[book_topup_at(s, 2) + BOOK_TOPUP_MARGIN] = 45, topup[book_topup_at(s, 2) + BOOK_TOPUP_LIFT] = 500;
+    a = book_order(&book, &q);
+    see(a.refusal == BOOK_COMMITTED && a.order == 1 && a.lifts == 3, "how many lines lifted");
+    see(at(book_stock_at(s, 1, 1), BOOK_STOCK_ON_HAND) == 49, "40 is kept, 39 and 10, 39 and 10");
+    see(at(book_stock_at(s, 1, 2), BOOK_STOCK_ON_HAND) == 45 && at(book_stock_at(s, 2, 2), BOOK_STOCK_ON_HAND) == 544, "45 is kept, 44 and 500");
+    q.lines_len = 1, topup[book_topup_at(s, 1) + BOOK_TOPUP_MARGIN] = 39;
+    see(book_order(&book, &q).lifts == 0 && at(book_stock_at(s, 1, 1), BOOK_STOCK_ON_HAND) == 39, "a table that is changed");
+}
+
+/* 17 behind 2, 3, 9 and 13, before 11 and 12; the flat function's array is 0 behind the number. */
+static void topup_order(void)
+{
+    struct book book = fresh();
+    struct book_line none = {5, 1, 1};
+    struct book_order_request no_item = order_of(1, 4, 2, &none, 1);
+    uint64_t out[5];
+    topup[book_topup_at(&small, 4) + BOOK_TOPUP_LIFT] = BOOK_MAX_LIFT + 1;
+    memset(out, 0x5a, sizeof out);
+    book_new_order(nums, book.nums_len, names, book.names_len, last, book.last_len, topup, book.topup_len, 1, 4, 2, 100, &one, 1, out);
+    see(out[0] == BOOK_BAD_TOPUP && out[1] == 0 && out[2] == 0 && out[3] == 0 && out[4] == 0, "an order's array where it is refused");
+    see(book_order(&book, &no_item).refusal == BOOK_BAD_TOPUP && book_order(&book, &no_item).detail == 0, "17 before 12");
+    nums[book_district_at(&small, 1, 4) + BOOK_DISTRICT_NEXT_ORDER] = (int64_t)small.orders + 1;
+    see(orders(&book) == BOOK_BAD_TOPUP, "17 before 11");
+    see(book_open(&book).refusal == BOOK_NOT_NEW, "3 before 17");
+    last[book_last_at(&small, 1, 4, 1)] = -1;
+    see(orders(&book) == BOOK_BAD_LAST, "13 before 17");
+    nums[book_stock_at(&small, 1, 1) + BOOK_STOCK_ON_HAND] = BOOK_MAX_ON_HAND + 1;
+    see(orders(&book) == BOOK_BAD_ROW, "9 before 17");
+    book.names_len--;
+    see(orders(&book) == BOOK_BAD_HEAD && book_open(&book).refusal == BOOK_BAD_HEAD, "2 before 17");
+}
+
 /* ---- Deliveries that wait ---- */
 
 static struct book_deliver_request deliver_of(uint64_t w, uint64_t carrier, uint64_t date)
@@ -775,11 +868,12 @@ int main(void)
 {
     see(book_version() == BOOK_VERSION, "version");
     see(book_numbers(&small) == sizeof nums / sizeof *nums && book_name_bytes(&small) == sizeof names &&
-            book_last_numbers(&small) == sizeof last / sizeof *last && book_note_bytes(&small) == sizeof notes,
+            book_last_numbers(&small) == sizeof last / sizeof *last && book_note_bytes(&small) == sizeof notes &&
+            book_topup_numbers(&small) == sizeof topup / sizeof *topup,
         "the small book's room");
     for (int k = 0; k < 200000; k++) layout();
     masters(), ranges(), story(), in_use(), last_length(), last_places(), last_range(), notes_length(), notes_places(), notes_moved();
-    queued(), runs(), not_run(), refused(), lines();
+    topup_length(), topup_rows(), topup_lifts(), topup_order(), queued(), runs(), not_run(), refused(), lines();
     printf("header: %lu facts, %lu wrong\n", tried, wrong);
     return wrong != 0;
 }

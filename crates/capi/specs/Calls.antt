@@ -26,18 +26,18 @@ use Rattle.model.specs.OrderStatus.{statusAnswer, statusPart}
 use Rattle.model.specs.StockLevel.{stockLevelAnswer}
 use Rattle.model.specs.Request.{Request, linesOf}
 use Rattle.model.specs.RequestLine.{writeAnswer, writeBuffer}
-use Rattle.flat.specs.Flat.{bareOut, oneOut, twoOut, balanceOut, statusOut}
+use Rattle.flat.specs.Flat.{bareOut, oneOut, twoOut, threeOut, balanceOut, statusOut}
 use Rattle.flat.specs.FlatLines.{readOut}
 use Rattle.places.specs.declared.Spot.{Spot}
 use Rattle.places.specs.Places.{placesOut}
 
-pub record OpeningC (b : List ℤ) (names : List ℕ) (out : List ℕ) : Type 0 where
-  pub answers : out ≡ bareOut (openingAnswer b names)
+pub record OpeningC (b : List ℤ) (names : List ℕ) (topup : List ℤ) (out : List ℕ) : Type 0 where
+  pub answers : out ≡ bareOut (openingAnswer b names topup)
 
-pub record NewOrderC (b : List ℤ) (names : List ℕ) (last : List ℤ) (q : NewOrder) (lines : List Line) (out : List ℕ) (left noted : List ℤ) : Type 0 where
-  pub answers : out ≡ twoOut (newOrderAnswer b names last q lines)
-  pub leaves : left ≡ newOrderBook b names last q lines
-  pub notes : noted ≡ newOrderLast b names last q lines
+pub record NewOrderC (b : List ℤ) (names : List ℕ) (last topup : List ℤ) (q : NewOrder) (lines : List Line) (out : List ℕ) (left noted : List ℤ) : Type 0 where
+  pub answers : out ≡ threeOut (newOrderAnswer b names last topup q lines)
+  pub leaves : left ≡ newOrderBook b names last topup q lines
+  pub notes : noted ≡ newOrderLast b names last topup q lines
 
 pub record PaymentC (b : List ℤ) (names notes : List ℕ) (q : Payment) (who : Who) (out : List ℕ) (balance left : List ℤ) (written : List ℕ) : Type 0 where
   pub answers : out ≡ oneOut (paymentAnswer b names notes q who)

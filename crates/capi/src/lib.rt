@@ -23,35 +23,38 @@ use model::Waiting;
 // The version of these functions: BOOK_VERSION of include/book.h.
 #[no_mangle]
 pub extern "C" fn book_version() -> u64
-    ensures { λ r. ⌜ r ≡ 4 ⌝ }
+    ensures { λ r. ⌜ r ≡ 5 ⌝ }
 {
-    4
+    5
 }
 
-// Opening.
+// Opening; topup has the margin and the lift of each item.
 #[no_mangle]
-pub extern "C" fn book_opening(nums: &[i64], names: &[u8], out: &mut [u64; 2])
-    ensures { λ _. ⌜ OpeningC (now (nums .entry)) (now (names .entry)) (now (out .exit)) ⌝ }
+pub extern "C" fn book_opening(nums: &[i64], names: &[u8], topup: &[i64], out: &mut [u64; 2])
+    ensures { λ _. ⌜ OpeningC (now (nums .entry)) (now (names .entry)) (now (topup .entry)) (now (out .exit)) ⌝ }
 {
-    let a = opening::opening(nums, names);
+    let a = opening::opening(nums, names, topup);
     let o = a.outcome;
     *out = flat::opening_out(o);
 }
 
-// New-Order; the lines are a lent slice of records of any length, read where they lie. last has the last order of each customer.
+// New-Order; the lines are a lent slice of records of any length, read where they lie. last has the last order of each customer, topup the margin and the
+// lift of each item.
 #[no_mangle]
 pub extern "C" fn book_new_order(
     nums: &mut [i64],
     names: &[u8],
     last: &mut [i64],
+    topup: &[i64],
     warehouse: u64,
     district: u64,
     customer: u64,
     date: u64,
     lines: &[Line],
-    out: &mut [u64; 4],
+    out: &mut [u64; 5],
 )
-    ensures { λ _. ⌜ NewOrderC (now (nums .entry)) (now (names .entry)) (now (last .entry)) (newOrderOf warehouse district customer date) (now (lines .entry))
+    ensures { λ _. ⌜ NewOrderC (now (nums .entry)) (now (names .entry)) (now (last .entry)) (now (topup .entry))
+        (newOrderOf warehouse district customer date) (now (lines .entry))
         (now (out .exit)) (now (nums .exit)) (now (last .exit)) ⌝ }
 {
     let q = NewOrder {
@@ -60,7 +63,7 @@ pub extern "C" fn book_new_order(
         customer,
         date,
     };
-    let a = new_order::new_order(nums, names, last, q, lines);
+    let a = new_order::new_order(nums, names, last, topup, q, lines);
     flat::put_new_order(out, a)
 }
 

@@ -1,4 +1,4 @@
--- The program's claim: whatever bytes come in, its book agrees with its history, no line is answered 2, 3, 9, 13 or 14, and its last orders are
+-- The program's claim: whatever bytes come in, its book agrees with its history, no line is answered 2, 3, 9, 13, 14 or 17, and its last orders are
 -- those of its book.
 -- Assumes nothing.
 use mathlib.Core.Path.{_≡_, refl, sym, subst}
@@ -11,7 +11,7 @@ use lib.IntN.{ℤ, pos}
 use Rattle.model.specs.declared.Refusal.{Refusal}
 use Rattle.model.specs.Answer.{Answer, committed, refused, answerBy}
 use Rattle.model.specs.Head.{dims}
-use Rattle.model.specs.Opening.{openingFault}
+use Rattle.model.specs.Opening.{Accepted}
 use Rattle.model.specs.NewOrder.{newOrderAnswer}
 use Rattle.model.specs.Payment.{paymentAnswer}
 use Rattle.model.specs.Delivery.{deliveryAnswer}
@@ -28,14 +28,15 @@ use Rattle.model.specs.Claim.{R, Claim, Never, lastOrder, Started, NeverBy}
 use Rattle.model.proofs.Demand.{demand}
 use Rattle.model.proofs.LastDemand.{last-orders, last-serves}
 use Rattle.model.proofs.NoteDemand.{notes-serve}
-use Rattle.model.proofs.Listing.{programBook, programNames, programLast, programNotes, accepted}
+use Rattle.model.proofs.Listing.{programBook, programNames, programLast, programNotes, programTopup, accepted}
+use Rattle.model.proofs.TopUpDemand.{opening-accepts, table-serves}
 use Rattle.desk.specs.Step.{None239, Sound}
 use Rattle.desk.specs.Input.{leftBy, requestsIn, heldIn, Served}
 use Rattle.desk.proofs.Blocks.{left-requests}
 
 -- demand 3, of a book after requests
 abbrev pub Claimed : Lent → List Request → List ℤ → Type 0
-Claimed s rs b = Claim (dims (s .nums)) (s .nums) (tallied s rs) b × Never (doneAll s rs)
+Claimed s rs b = Claim (dims (s .nums)) (s .nums) (s .topup) (tallied s rs) b × Never (doneAll s rs)
 
 -- ── an answer on a book that any lines left ──
 refused-by : (g f : Refusal) (figures : List ℤ) → answerBy g figures ≡ refused f → g ≡ f
@@ -57,7 +58,7 @@ never-last : (s : Lent) (rs : List Request) (r : Request) → Never (doneAll s (
 never-last s [] r n = (n .0, (n .1 .0, n .1 .1 .0))
 never-last s (q ∷ rs) r n = never-last (after s q) rs r (n .1 .1 .1)
 
-module _ (s : Lent) (opened : openingFault (s .nums) (s .names) .number ≡ 0) where
+module _ (s : Lent) (opened : Accepted (s .nums) (s .names)) where
   never-refused : (ls : List (List ℕ)) (r : Request) (f : Refusal) → answerOf (leftBy s ls) r ≡ refused f → None239 (f .number)
   never-refused ls r f e =
       let g : faultOf (afterAll s (requestsIn ls)) r ≡ f = rw (← left-requests s ls) (answer-refused (leftBy s ls) r f e) in
@@ -93,24 +94,27 @@ module _ (s : Lent) (opened : openingFault (s .nums) (s .names) .number ≡ 0) w
 
 -- ── the program's book ──
 abbrev pub program : Lent
-program = lent programBook programNames programLast programNotes
+program = lent programBook programNames programLast programNotes programTopup
+
+program-accepted : Accepted programBook programNames
+program-accepted = opening-accepts programBook programNames programTopup .0 accepted .0
 
 -- whatever bytes come in
 pub program-claim : (input : List ℕ) → Claimed program (heldIn input) (afterAll program (heldIn input) .nums)
-program-claim input = demand program accepted (heldIn input)
+program-claim input = demand program program-accepted (heldIn input)
 
 -- whatever lines came before
 pub program-sound : (ls : List (List ℕ)) (l : List ℕ) → Sound (printedFor (leftBy program ls) (readLine l))
-program-sound = line-sound program accepted
+program-sound = line-sound program program-accepted
 
 -- whatever `serve` leaves of it
 pub program-served : (left : Lent) (v : Served program left) → Claimed program (heldIn (v .input)) (left .nums)
-program-served = served-claim program accepted
+program-served = served-claim program program-accepted
 
 -- ── R-1: the program lends last orders all 0 ──
 program-started : Started program
 unfolding dims cell nat
-program-started = record { accepted = accepted; zeros = refl }
+program-started = record { accepted = program-accepted; zeros = refl }
 
 -- whatever `serve` leaves: each number is the one that the scan of the book finds
 pub program-last : (left : Lent) → Served program left → (w k c : ℕ) → R (dims programBook .warehouses) w → R 10 k → R (dims programBook .customers) c
@@ -128,3 +132,8 @@ program-serves input = last-serves program program-started (heldIn input)
 pub program-noted : (input : List ℕ) → NeverBy 14 (doneAll program (heldIn input))
 unfolding dims cell nat
 program-noted input = notes-serve program refl (heldIn input)
+
+-- ── R-6: the program lends the table 10, 91 ──
+-- whatever bytes come in: no request is refused by 17
+pub program-topped : (input : List ℕ) → NeverBy 17 (doneAll program (heldIn input))
+program-topped input = table-serves program (opening-accepts programBook programNames programTopup .0 accepted .1) (heldIn input)

@@ -30,9 +30,9 @@ abbrev pub isCommitted : Answer → Bool
 isCommitted (committed figures) = true
 isCommitted (refused r) = false
 
--- a program's book and names: opening accepts them where its answer is true
-pub record Ran (b : List ℤ) (names : List ℕ) (r : Bool) : Type 0 where
-  pub opened : r ≡ isCommitted (openingAnswer b names)
+-- a program's book, names and table: opening accepts them where its answer is true
+pub record Ran (b : List ℤ) (names : List ℕ) (topup : List ℤ) (r : Bool) : Type 0 where
+  pub opened : r ≡ isCommitted (openingAnswer b names topup)
 
 abbrev pub None239 : ℕ → Type 0
 None239 n = (n ≢ 2) × ((n ≢ 3) × (n ≢ 9))

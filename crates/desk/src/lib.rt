@@ -4,7 +4,7 @@ ghost use Prim.Native.Nat.{_≤_};
 ghost use lib.IntN.{pos};
 ghost use lib.ListN.{length, take, replicate};
 ghost use Rattle.model.specs.Request.{lent};
-ghost use Rattle.model.proofs.Listing.{programBook, programNames, programLast, programNotes};
+ghost use Rattle.model.proofs.Listing.{programBook, programNames, programLast, programNotes, programTopup};
 ghost use Rattle.blocks.specs.Cutting.{Started};
 ghost use Rattle.desk.specs.Step.{Stepped, Ran};
 ghost use Rattle.desk.specs.Input.{FedIn, Served};
@@ -93,18 +93,26 @@ fn fill_names(names: &mut [u8])
     }
 }
 
+// The program's table: a margin of 10 and a lift of 91 for each of its five items.
+fn ten_and_91() -> [i64; 10]
+    ensures { λ r. ⌜ r ≡ programTopup ⌝ }
+{
+    [10, 91, 10, 91, 10, 91, 10, 91, 10, 91]
+}
+
 // One request line in, one answer out to a buffer of at least 2,048 bytes: its length, or 0 where there is no room and nothing is done.
 fn step(
     b: &mut [i64],
     names: &[u8],
     last: &mut [i64],
     notes: &mut [u8],
+    topup: &[i64],
     line: &[u8],
     out: &mut [u8],
 ) -> usize
     ensures { λ r. ⌜ Stepped
-        (lent (now (b .entry)) (now (names .entry)) (now (last .entry)) (now (notes .entry))) (now (line .entry)) (now (out .entry)) (now (out .exit)) r
-        (lent (now (b .exit)) (now (names .entry)) (now (last .exit)) (now (notes .exit))) ⌝ }
+        (lent (now (b .entry)) (now (names .entry)) (now (last .entry)) (now (notes .entry)) (now (topup .entry))) (now (line .entry)) (now (out .entry)) (now (out .exit)) r
+        (lent (now (b .exit)) (now (names .entry)) (now (last .exit)) (now (notes .exit)) (now (topup .entry))) ⌝ }
 {
     if out.len() < 2048 {
         return 0;
@@ -126,6 +134,7 @@ fn step(
                 names,
                 last,
                 notes,
+                topup,
                 form,
                 &items[0..n],
                 &supplies[0..n],
@@ -156,15 +165,16 @@ fn feed(
     names: &[u8],
     last: &mut [i64],
     notes: &mut [u8],
+    topup: &[i64],
     line: &mut [u8],
     len: usize,
     block: &[u8],
 ) -> Fed
     requires { ⌜ Started (now line) len (now block) 0 ⌝ }
     ensures { λ r. ⌜ FedIn
-        (lent (now (b .entry)) (now (names .entry)) (now (last .entry)) (now (notes .entry))) (take len (now (line .entry))) (now (block .entry))
+        (lent (now (b .entry)) (now (names .entry)) (now (last .entry)) (now (notes .entry)) (now (topup .entry))) (take len (now (line .entry))) (now (block .entry))
         (now (line .exit)) (r .len) (r .used) (r .open)
-        (lent (now (b .exit)) (now (names .entry)) (now (last .exit)) (now (notes .exit))) ⌝ }
+        (lent (now (b .exit)) (now (names .entry)) (now (last .exit)) (now (notes .exit)) (now (topup .entry))) ⌝ }
 {
     let mut out = [0u8; 2048];
     let mut n = len;
@@ -180,7 +190,7 @@ fn feed(
                 open: true,
             };
         }
-        let m = step(b, names, last, notes, &line[0..n], &mut out);
+        let m = step(b, names, last, notes, topup, &line[0..n], &mut out);
         n = 0;
         if !stdio::put(&out[0..m]) {
             return Fed {
@@ -194,10 +204,10 @@ fn feed(
 
 // Standard input answered line by line on the program's book, until it ends, cannot be read, or the output takes no more; at its end a last line without its own
 // is answered too. True where all was read and every answer taken.
-fn serve(b: &mut [i64], names: &[u8], last: &mut [i64], notes: &mut [u8]) -> bool
-    requires { ⌜ (now b ≡ programBook) × ((now names ≡ programNames) × ((now last ≡ programLast) × (now notes ≡ programNotes))) ⌝ }
-    ensures { λ _. ⌜ Served (lent (now (b .entry)) (now (names .entry)) (now (last .entry)) (now (notes .entry)))
-        (lent (now (b .exit)) (now (names .entry)) (now (last .exit)) (now (notes .exit))) ⌝ }
+fn serve(b: &mut [i64], names: &[u8], last: &mut [i64], notes: &mut [u8], topup: &[i64]) -> bool
+    requires { ⌜ (now b ≡ programBook) × ((now names ≡ programNames) × ((now last ≡ programLast) × ((now notes ≡ programNotes) × (now topup ≡ programTopup)))) ⌝ }
+    ensures { λ _. ⌜ Served (lent (now (b .entry)) (now (names .entry)) (now (last .entry)) (now (notes .entry)) (now (topup .entry)))
+        (lent (now (b .exit)) (now (names .entry)) (now (last .exit)) (now (notes .exit)) (now (topup .entry))) ⌝ }
 {
     let mut block = [0u8; 4096];
     let mut line = [0u8; 1024];
@@ -212,12 +222,12 @@ fn serve(b: &mut [i64], names: &[u8], last: &mut [i64], notes: &mut [u8]) -> boo
         if n == 0 {
             if 0 < len {
                 let mut out = [0u8; 2048];
-                let m = step(b, names, last, notes, &line[0..len], &mut out);
+                let m = step(b, names, last, notes, topup, &line[0..len], &mut out);
                 return stdio::put(&out[0..m]);
             }
             return true;
         }
-        let fed = feed(b, names, last, notes, &mut line, len, &block[0..n]);
+        let fed = feed(b, names, last, notes, topup, &mut line, len, &block[0..n]);
         if fed.open {
             len = fed.len;
         } else {
@@ -228,22 +238,23 @@ fn serve(b: &mut [i64], names: &[u8], last: &mut [i64], notes: &mut [u8]) -> boo
     false
 }
 
-// The program: its book, opened, with last orders all 0 and texts all spaces, and standard input answered on it; where all went well the output is closed. True, for
+// The program: its book, opened, with last orders all 0, texts all spaces and the table 10, 91, and standard input answered on it; where all went well the output is closed. True, for
 // opening accepts the book.
 pub fn run() -> bool
-    ensures { λ r. ⌜ Ran programBook programNames r ⌝ }
+    ensures { λ r. ⌜ Ran programBook programNames programTopup r ⌝ }
 {
     let mut b = [0i64; 3479];
     let mut names = [0u8; 640];
     let mut last = [0i64; 20];
     let mut notes = [32u8; 10000];
+    let topup = ten_and_91();
     fill_numbers(&mut b);
     fill_names(&mut names);
-    let a = opening::opening(&b, &names);
+    let a = opening::opening(&b, &names, &topup);
     let o = a.outcome;
     match o {
         OpeningOutcome::Accepted => {
-            if serve(&mut b, &names, &mut last, &mut notes) {
+            if serve(&mut b, &names, &mut last, &mut notes, &topup) {
                 stdio::close();
             }
             true

@@ -36,4 +36,4 @@ module _ {A : Type 0} where
 
 -- .. of a kind that takes numbers and names alone
 abbrev pub CarriedBeside : List ℤ → List ℕ → Request → RequestAnswer → List ℤ → Type 0
-CarriedBeside b names q r left = Whatever (λ last. Whatever (λ notes. Carried (lent b names last notes) q r (lent left names last notes)))
+CarriedBeside b names q r left = Whatever (λ last. Whatever (λ notes. Whatever (λ topup. Carried (lent b names last notes topup) q r (lent left names last notes topup))))

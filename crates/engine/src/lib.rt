@@ -18,16 +18,17 @@ fn new_order(
     b: &mut [i64],
     names: &[u8],
     last: &mut [i64],
+    topup: &[i64],
     q: NewOrder,
     items: &[u64],
     supplies: &[u64],
     quantities: &[u64],
 ) -> RequestAnswer
-    ensures { λ r. ⌜ Whatever (λ notes. Carried (lent (now (b .entry)) (now (names .entry)) (now (last .entry)) notes)
+    ensures { λ r. ⌜ Whatever (λ notes. Carried (lent (now (b .entry)) (now (names .entry)) (now (last .entry)) notes (now (topup .entry)))
         (newOrder q (linesOf (now (items .entry)) (now (supplies .entry)) (now (quantities .entry))))
-        r (lent (now (b .exit)) (now (names .entry)) (now (last .exit)) notes)) ⌝ }
+        r (lent (now (b .exit)) (now (names .entry)) (now (last .exit)) notes (now (topup .entry)))) ⌝ }
 {
-    let a = new_order::new_order_split(b, names, last, q, items, supplies, quantities);
+    let a = new_order::new_order_split(b, names, last, topup, q, items, supplies, quantities);
     let o = a.outcome;
     let outcome = RequestOutcome::NewOrder(o);
     let orders = [0u64; 10];
@@ -39,7 +40,7 @@ fn new_order(
     }
 }
 
-// Payment, whatever the last orders are.
+// Payment, whatever last orders and table are.
 fn payment(
     b: &mut [i64],
     names: &[u8],
@@ -48,9 +49,9 @@ fn payment(
     who: Selection,
     name: &[u8],
 ) -> RequestAnswer
-    ensures { λ r. ⌜ Whatever (λ last. Carried (lent (now (b .entry)) (now (names .entry)) last (now (notes .entry)))
+    ensures { λ r. ⌜ Whatever (λ last. Whatever (λ topup. Carried (lent (now (b .entry)) (now (names .entry)) last (now (notes .entry)) topup)
         (payment q (whoOf who (now (name .entry))))
-        r (lent (now (b .exit)) (now (names .entry)) last (now (notes .exit)))) ⌝ }
+        r (lent (now (b .exit)) (now (names .entry)) last (now (notes .exit)) topup))) ⌝ }
 {
     let a = payment::payment(b, names, notes, q, who, name);
     let o = a.outcome;
@@ -64,7 +65,7 @@ fn payment(
     }
 }
 
-// Delivery, whatever last orders and texts are.
+// Delivery, whatever last orders, texts and table are.
 fn delivery(b: &mut [i64], names: &[u8], q: Delivery) -> RequestAnswer
     ensures { λ r. ⌜ CarriedBeside (now (b .entry)) (now (names .entry)) (delivery q) r (now (b .exit)) ⌝ }
 {
@@ -80,7 +81,7 @@ fn delivery(b: &mut [i64], names: &[u8], q: Delivery) -> RequestAnswer
     }
 }
 
-// Order-Status, whatever the texts are.
+// Order-Status, whatever texts and table are.
 fn order_status(
     b: &[i64],
     names: &[u8],
@@ -89,9 +90,9 @@ fn order_status(
     who: Selection,
     name: &[u8],
 ) -> RequestAnswer
-    ensures { λ r. ⌜ Whatever (λ notes. Carried (lent (now (b .entry)) (now (names .entry)) (now (last .entry)) notes)
+    ensures { λ r. ⌜ Whatever (λ notes. Whatever (λ topup. Carried (lent (now (b .entry)) (now (names .entry)) (now (last .entry)) notes topup)
         (orderStatus q (whoOf who (now (name .entry))))
-        r (lent (now (b .entry)) (now (names .entry)) (now (last .entry)) notes)) ⌝ }
+        r (lent (now (b .entry)) (now (names .entry)) (now (last .entry)) notes topup))) ⌝ }
 {
     let a = order_status::status_shown(b, names, last, q, who, name);
     let o = a.outcome;
@@ -105,7 +106,7 @@ fn order_status(
     }
 }
 
-// Stock-Level, whatever last orders and texts are.
+// Stock-Level, whatever last orders, texts and table are.
 fn stock_level(b: &[i64], names: &[u8], q: StockLevel) -> RequestAnswer
     ensures { λ r. ⌜ CarriedBeside (now (b .entry)) (now (names .entry)) (stockLevel q) r (now (b .entry)) ⌝ }
 {
@@ -127,18 +128,19 @@ pub fn carry_out(
     names: &[u8],
     last: &mut [i64],
     notes: &mut [u8],
+    topup: &[i64],
     form: Form,
     items: &[u64],
     supplies: &[u64],
     quantities: &[u64],
     name: &[u8],
 ) -> RequestAnswer
-    ensures { λ r. ⌜ Carried (lent (now (b .entry)) (now (names .entry)) (now (last .entry)) (now (notes .entry)))
+    ensures { λ r. ⌜ Carried (lent (now (b .entry)) (now (names .entry)) (now (last .entry)) (now (notes .entry)) (now (topup .entry)))
         (requestOf form (linesOf (now (items .entry)) (now (supplies .entry)) (now (quantities .entry))) (now (name .entry)))
-        r (lent (now (b .exit)) (now (names .entry)) (now (last .exit)) (now (notes .exit))) ⌝ }
+        r (lent (now (b .exit)) (now (names .entry)) (now (last .exit)) (now (notes .exit)) (now (topup .entry))) ⌝ }
 {
     match form {
-        Form::NewOrder(q) => new_order(b, names, last, q, items, supplies, quantities),
+        Form::NewOrder(q) => new_order(b, names, last, topup, q, items, supplies, quantities),
         Form::Payment(q, who) => payment(b, names, notes, q, who, name),
         Form::Delivery(q) => delivery(b, names, q),
         Form::OrderStatus(q, who) => order_status(b, names, last, q, who, name),

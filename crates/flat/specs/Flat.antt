@@ -41,6 +41,10 @@ oneOut a = numberIn a ∷ detailIn a ∷ nat (figureIn a 0) ∷ []
 abbrev pub twoOut : Answer → List ℕ
 twoOut a = numberIn a ∷ detailIn a ∷ nat (figureIn a 0) ∷ nat (figureIn a 1) ∷ []
 
+-- three figures
+abbrev pub threeOut : Answer → List ℕ
+threeOut a = numberIn a ∷ detailIn a ∷ nat (figureIn a 0) ∷ nat (figureIn a 1) ∷ nat (figureIn a 2) ∷ []
+
 -- the balance, the second figure of Payment and Order-Status
 abbrev pub balanceOut : Answer → List ℤ
 balanceOut a = figureIn a 1 ∷ []

@@ -1,7 +1,7 @@
 // Answers as flat numbers that a caller lends, and a request's flat numbers as the call takes them.
 ghost use mathlib.Core.Path.{_≡_};
 ghost use Rattle.model.specs.Answer.{openingSays, newOrderSays, paymentSays, deliverySays, queueSays, statusSays, stockLevelSays};
-ghost use Rattle.flat.specs.Flat.{bareOut, oneOut, twoOut, balanceOut, statusOut, selectionOf};
+ghost use Rattle.flat.specs.Flat.{bareOut, oneOut, twoOut, threeOut, balanceOut, statusOut, selectionOf};
 ghost use Rattle.model.specs.RequestLine.{writeSays};
 ghost use Rattle.model.specs.declared.Form.the-variants as Form;
 ghost use Rattle.flat.specs.FlatLines.{namedOut, numberOut, formOut, readOut};
@@ -45,19 +45,19 @@ pub fn opening_out(o: OpeningOutcome) -> [u64; 2]
     }
 }
 
-// New-Order's answer: number, detail, order, total.
-fn new_order_out(o: NewOrderOutcome) -> [u64; 4]
-    ensures { λ r. ⌜ r ≡ twoOut (newOrderSays o) ⌝ }
+// New-Order's answer: number, detail, order, total, lifts.
+fn new_order_out(o: NewOrderOutcome) -> [u64; 5]
+    ensures { λ r. ⌜ r ≡ threeOut (newOrderSays o) ⌝ }
 {
     match o {
-        NewOrderOutcome::Committed(f) => [0, 0, f.order, f.total],
-        NewOrderOutcome::Refused(r) => [r.number, r.detail, 0, 0],
+        NewOrderOutcome::Committed(f) => [0, 0, f.order, f.total, f.lifts],
+        NewOrderOutcome::Refused(r) => [r.number, r.detail, 0, 0, 0],
     }
 }
 
 // New-Order's answer, put into the lent numbers.
-pub fn put_new_order(out: &mut [u64; 4], a: NewOrderAnswer)
-    ensures { λ _. ⌜ now (out .exit) ≡ twoOut (newOrderSays (a .outcome)) ⌝ }
+pub fn put_new_order(out: &mut [u64; 5], a: NewOrderAnswer)
+    ensures { λ _. ⌜ now (out .exit) ≡ threeOut (newOrderSays (a .outcome)) ⌝ }
 {
     let o = a.outcome;
     *out = new_order_out(o);

@@ -7,7 +7,7 @@ use Prim.Native.Nat.{ℕ, _+_, _-_, _/_, _%_, _≤_, _<_, _^_}
 use native.Mathlib.Nat.{mod-eq-of-lt}
 use native.Mathlib.Decide.{decLt}
 use native.Mathlib.Omega.{arith}
-use lib.Bits.{bitOr, or-lt, or-add-and, and-le-l, and-le-r}
+use lib.Bits.{bitOr}
 use lib.Dec.{leb, ltb}
 use lib.IntN.{ℤ}
 use borrow.Author.Tests.{ltb-true, ltb-false, lt-ltb, le-ltb, le-leb, lt-leb}
@@ -15,18 +15,7 @@ use Rattle.model.specs.Tests.{allTo}
 use Rattle.model.specs.Numbers.{cell}
 use Rattle.model.specs.Claim.{R}
 use Rattle.model.proofs.TestLaws.{and-left, and-right, and-both, all-none, all-step, all-at, all-to}
-
-abbrev pub below : ℕ → Bool
-below a = ltb a (2 ^ 63)
-
--- an or is below 2 ^ 63 just where both are
-or-below : (a b : ℕ) → below (bitOr a b) ≡ (below a && below b)
-or-below a b = go (below a) (below b) refl refl
-  where
-    go : (s t : Bool) → below a ≡ s → below b ≡ t → below (bitOr a b) ≡ (s && t)
-    go true true p q = lt-ltb (bitOr a b) (2 ^ 63) (or-lt 63 a b (ltb-true a (2 ^ 63) p) (ltb-true b (2 ^ 63) q))
-    go true false p q = le-ltb (bitOr a b) (2 ^ 63) (omega (arith, ltb-false b (2 ^ 63) q, or-add-and a b, and-le-l a b))
-    go false t p q = le-ltb (bitOr a b) (2 ^ 63) (omega (arith, ltb-false a (2 ^ 63) p, or-add-and a b, and-le-r a b))
+use Rattle.cells.proofs.Ors.{below, or-below, sorted, same-truth}
 
 -- a number's bits x and their sum s with 2 ^ 63 - next are below 2 ^ 63 just where the number is below next
 number-before : (v x s next : ℕ) → 1 ≤ next → next < 2 ^ 63 → v ≡ cond (below x) x (2 ^ 63) → s ≡ (x + (2 ^ 63 - next)) % 2 ^ 64 → (below x && below s) ≡ leb v (next - 1)
@@ -42,22 +31,6 @@ number-before v x s next l h e f = go (below x) refl
     go : (t : Bool) → below x ≡ t → (t && below s) ≡ leb v (next - 1)
     go true q = let k : v ≡ x = e ∙ rw q in sum (ltb x next) refl (ltb-true x (2 ^ 63) q) ∙ ap (λ (y : ℕ). leb y (next - 1)) (sym k)
     go false q = let k : v ≡ 2 ^ 63 = e ∙ rw q in sym (lt-leb v (next - 1) (omega arith))
-
--- two numbers of a turn beside what the turns before have found
-sorted : (a b x s y t : Bool) → (((a && x) && y) && ((b && s) && t)) ≡ ((a && b) && ((x && s) && (y && t)))
-sorted false b x s y t = refl
-sorted true false false s y t = refl
-sorted true false true s false t = refl
-sorted true false true s true t = refl
-sorted true true false s y t = refl
-sorted true true true false false t = refl
-sorted true true true false true t = refl
-sorted true true true true y t = refl
-
-same-truth : (s t : Bool) → (s ≡ true → t ≡ true) → (t ≡ true → s ≡ true) → s ≡ t
-same-truth true t f g = sym (f refl)
-same-truth false true f g = g refl
-same-truth false false f g = refl
 
 -- number c, from 1, of those from p on is one of 0, .., next - 1
 abbrev pub before : List ℤ → ℕ → ℕ → ℕ → Bool

@@ -27,15 +27,15 @@ use Rattle.model.specs.Request.{Request, newOrder, payment, delivery, or
 use Rattle.model.specs.Tally.{Opened, Tally, Order, N, worth, tallyPayment, tallyLines, tallyOrder, tallyDistricts, count, tally, afterAll, doneAll}
 use Rattle.model.specs.Claim.{R}
 use Rattle.model.proofs.NumberLaws.{nat-pos}
-use Rattle.model.proofs.RuleLaws.{price-is}
+use Rattle.model.proofs.RuleLaws.{Tabled, tabled, price-is}
 use Rattle.model.proofs.RowFacts.{AllIn, all-in-map}
 use Rattle.model.proofs.PaymentFacts.{PayReady, pay-ready}
-use Rattle.model.proofs.NewOrderFacts.{LineReady, NewReady, new-ready, lines-ready}
+use Rattle.model.proofs.NewOrderFacts.{LineReady, NewReady, new-ready, new-tabled, lines-ready}
 use Rattle.model.proofs.DeliveryFacts.{DeliveryReady, delivery-ready}
 use Rattle.model.proofs.OrderRows.{LineStep, Priced}
 use Rattle.model.proofs.Parts.{Agrees}
 use Rattle.model.proofs.StepPay.{PayStep, pay-agrees}
-use Rattle.model.proofs.StepLine.{lines-agree}
+use Rattle.model.proofs.StepLine.{line-steps, lines-agree}
 use Rattle.model.proofs.StepJoin.{NewStep, join-agrees}
 use Rattle.model.proofs.StepDeliver.{next-num, delivers-agree}
 use Rattle.model.proofs.Sane.{Sane, lines-leave, sane-pay, sane-new, sane-districts}
@@ -79,12 +79,12 @@ module _ (D : Dims) (b₀ : List ℤ) (names : List ℕ) (t : Tally) (b : List �
         booked = booked-pay t q c (r .asked .k) (g .booked);
       }
 
-  new-step : (n : ℕ) (q : NewOrder) (ls : List Line) → NewReady D b n q ls
-      → Good D b₀ (tallyOrder (q .warehouse) (q .district) (record { customer = q .customer; sum = worth (openedAt D b₀ names .prices) ls }) (tallyLines ls t)) (newOrderCommit D b q ls)
+  new-step : (topup : List ℤ) (n : ℕ) (q : NewOrder) (ls : List Line) → Tabled D topup → NewReady D b n q ls
+      → Good D b₀ (tallyOrder (q .warehouse) (q .district) (record { customer = q .customer; sum = worth (openedAt D b₀ names .prices) ls }) (tallyLines ls t)) (newOrderCommit D b topup q ls)
   unfolding newOrderCommit
-  new-step n q ls r =
+  new-step topup n q ls u r =
       let ready = lines-ready D b n q ls r in
-      let ranges : AllIn (LineStep D) ls = all-in-map (LineReady D b) (LineStep D) (λ l p. record { item = p .used .item; supply = p .asked .supply; quantity = p .asked .quantity }) ls ready in
+      let ranges = line-steps D b ls ready in
       let pr : ℕ → ℕ = priceOf D b in
       let is : (i : ℕ) → pr i ≡ num (shapes D) b (price i) = price-is D b in
       let priced : AllIn (Priced pr) ls = all-in-map (LineReady D b) (Priced pr) (λ l p. record { low = rw (is (l .item)) (p .used .price-low); high = rw (is (l .item)) (p .used .price-high) }) ls ready in
@@ -103,10 +103,10 @@ module _ (D : Dims) (b₀ : List ℤ) (names : List ℕ) (t : Tally) (b : List �
         priced = priced;
         room = subst (λ (i : ℕ). i ≤ D .orders) en (r .used .next .hi);
       } in
-      let a = join-agrees D b₀ (tallyLines ls t) (takeLines D (q .warehouse) ls b) (lines-agree D b₀ (q .warehouse) ls ranges t b (g .agrees)) pr q ls f in
-      let a′ = subst (λ (i : ℕ). Agrees D b₀ (tallyOrder (q .warehouse) (q .district) (record { customer = q .customer; sum = worth pr ls }) (tallyLines ls t)) (run (shapes D) (joinOps D pr i q ls) (takeLines D (q .warehouse) ls b))) (sym en) a in
+      let a = join-agrees D b₀ (tallyLines ls t) (takeLines D topup (q .warehouse) ls b) (lines-agree D b₀ topup u (q .warehouse) ls ranges t b (g .agrees)) pr q ls f in
+      let a′ = subst (λ (i : ℕ). Agrees D b₀ (tallyOrder (q .warehouse) (q .district) (record { customer = q .customer; sum = worth pr ls }) (tallyLines ls t)) (run (shapes D) (joinOps D pr i q ls) (takeLines D topup (q .warehouse) ls b))) (sym en) a in
       let s = sane-new D t q ls pr (g .sane) (r .asked .w) (r .asked .k) (r .asked .count .hi) ranges priced in
-      subst (λ (i : ℕ). Good D b₀ (tallyOrder (q .warehouse) (q .district) (record { customer = q .customer; sum = i }) (tallyLines ls t)) (run (shapes D) (joinOps D pr (num (shapes D) b (nextOrder (q .warehouse) (q .district))) q ls) (takeLines D (q .warehouse) ls b))) es
+      subst (λ (i : ℕ). Good D b₀ (tallyOrder (q .warehouse) (q .district) (record { customer = q .customer; sum = i }) (tallyLines ls t)) (run (shapes D) (joinOps D pr (num (shapes D) b (nextOrder (q .warehouse) (q .district))) q ls) (takeLines D topup (q .warehouse) ls b))) es
       (record { agrees = a′; sane = s; booked = booked-order (q .warehouse) (q .district) (record { customer = q .customer; sum = worth pr ls }) (tallyLines ls t) (booked-lines ls t (g .booked)) })
 
   deliver-step : (n : ℕ) (q : Delivery) → DeliveryReady D b n q → Good D b₀ (tallyDistricts (q .warehouse) 10 t) (deliveryCommit D b q)
@@ -130,20 +130,21 @@ module _ (D : Dims) (b₀ : List ℤ) (names : List ℕ) (t : Tally) (b : List �
           let r : PayReady D b names notes q who = subst (λ (d : Dims). PayReady d b names notes q who) (g .agrees .head .head) (pay-ready b names notes q who (eqb-true _ _ e)) in
           subst (λ (d : Dims). Good D b₀ (tallyPayment q (payer D names q who) t) (paymentCommit d b q (payer d names q who))) (sym (g .agrees .head .head)) (pay-step notes q who r)
 
-  new-any : (last : List ℤ) (q : NewOrder) (ls : List Line)
-      → Good D b₀ (cond (eqb (newOrderFault b names last q ls .number) 0)
-      (tallyOrder (q .warehouse) (q .district) (record { customer = q .customer; sum = worth (openedAt D b₀ names .prices) ls }) (tallyLines ls t)) t) (newOrderBook b names last q ls)
+  new-any : (last topup : List ℤ) (q : NewOrder) (ls : List Line)
+      → Good D b₀ (cond (eqb (newOrderFault b names last topup q ls .number) 0)
+      (tallyOrder (q .warehouse) (q .district) (record { customer = q .customer; sum = worth (openedAt D b₀ names .prices) ls }) (tallyLines ls t)) t) (newOrderBook b names last topup q ls)
   unfolding newOrderBook
-  new-any last q ls = go (eqb (newOrderFault b names last q ls .number) 0) refl
+  new-any last topup q ls = go (eqb (newOrderFault b names last topup q ls .number) 0) refl
     where
-      go : (x : Bool) → eqb (newOrderFault b names last q ls .number) 0 ≡ x
+      go : (x : Bool) → eqb (newOrderFault b names last topup q ls .number) 0 ≡ x
           → Good D b₀ (cond x (tallyOrder (q .warehouse) (q .district) (record { customer = q .customer; sum = worth (openedAt D b₀ names .prices) ls }) (tallyLines ls t)) t)
-          (cond x (newOrderCommit (dims b) b q ls) b)
+          (cond x (newOrderCommit (dims b) b topup q ls) b)
       go false e = g
       go true e =
-          let r : NewReady D b (length names) q ls = subst (λ (d : Dims). NewReady d b (length names) q ls) (g .agrees .head .head) (new-ready b names last q ls (eqb-true _ _ e)) in
-          subst (λ (d : Dims). Good D b₀ (tallyOrder (q .warehouse) (q .district) (record { customer = q .customer; sum = worth (openedAt D b₀ names .prices) ls }) (tallyLines ls t)) (newOrderCommit d b q ls)) (sym (g .agrees .head .head))
-          (new-step (length names) q ls r)
+          let r : NewReady D b (length names) q ls = subst (λ (d : Dims). NewReady d b (length names) q ls) (g .agrees .head .head) (new-ready b names last topup q ls (eqb-true _ _ e)) in
+          let u : Tabled D topup = subst (λ (d : Dims). Tabled d topup) (g .agrees .head .head) (tabled (dims b) topup (new-tabled b names last topup q ls (eqb-true _ _ e))) in
+          subst (λ (d : Dims). Good D b₀ (tallyOrder (q .warehouse) (q .district) (record { customer = q .customer; sum = worth (openedAt D b₀ names .prices) ls }) (tallyLines ls t)) (newOrderCommit d b topup q ls)) (sym (g .agrees .head .head))
+          (new-step topup (length names) q ls u r)
 
   deliver-any : (q : Delivery) → Good D b₀ (cond (eqb (deliveryFault b names q .number) 0) (tallyDistricts (q .warehouse) 10 t) t) (deliveryBook b names q)
   unfolding deliveryBook
@@ -167,7 +168,7 @@ module _ (D : Dims) (b₀ : List ℤ) where
 
   pub call-step : (t : Tally) (s : Lent) → Good D b₀ t (s .nums) → (r : Request) → Good D b₀ (counted t s r) (numsAfter s r)
   unfolding faultOf numsAfter count payer
-  call-step t s g (newOrder q ls) = new-any D b₀ (s .names) t (s .nums) g (s .last) q ls
+  call-step t s g (newOrder q ls) = new-any D b₀ (s .names) t (s .nums) g (s .last) (s .topup) q ls
   call-step t s g (payment q who) = pay-any D b₀ (s .names) t (s .nums) g (s .notes) q who
   call-step t s g (delivery q) = deliver-any D b₀ (s .names) t (s .nums) g q
   call-step t s g (orderStatus q who) = idle D b₀ (s .names) t (s .nums) g (eqb (faultOf s (orderStatus q who) .number) 0)

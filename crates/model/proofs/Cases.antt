@@ -3,12 +3,13 @@
 use mathlib.Core.Path.{_≡_, refl}
 use mathlib.Core.List.{[], _∷_}
 use Rattle.model.specs.Names.{placeOf}
-use Rattle.model.specs.NewOrder.{restock, orderTotal}
+use Rattle.model.specs.TopUp.{lifts, restock}
+use Rattle.model.specs.NewOrder.{orderTotal}
 use Rattle.model.specs.StockLevel.{windowFirst, windowCount}
 
 pub thirteen-cases :
     -- "On hand 20, quantity 10 gives 10; 10 and 1 gives 100; 0 and 10 gives 81; 9,999 and 10 gives 9,989."
-    (restock 20 10 ∷ restock 10 1 ∷ restock 0 10 ∷ restock 9999 10 ∷ [] ≡ 10 ∷ 100 ∷ 81 ∷ 9989 ∷ [])
+    (restock 10 91 20 10 ∷ restock 10 91 10 1 ∷ restock 10 91 0 10 ∷ restock 10 91 9999 10 ∷ [] ≡ 10 ∷ 100 ∷ 81 ∷ 9989 ∷ [])
     -- "Sum 1,750, discount 1,000, taxes 1,000 and 500: 1,811. Sum 100, no discount, same taxes: 115."
     × ((orderTotal 1750 1000 1000 500 ∷ orderTotal 100 0 1000 500 ∷ [] ≡ 1811 ∷ 115 ∷ [])
     -- R-2: "Sum 10, discount 0, taxes 500 in all: 10 becomes 11."
@@ -19,7 +20,7 @@ pub thirteen-cases :
     × ((windowCount 1 ≡ 0)
     × ((windowFirst 21 ∷ windowCount 21 ∷ [] ≡ 1 ∷ 20 ∷ [])
     × (windowFirst 22 ∷ windowCount 22 ∷ [] ≡ 2 ∷ 20 ∷ []))))))
-unfolding restock orderTotal windowFirst windowCount
+unfolding lifts restock orderTotal windowFirst windowCount
 thirteen-cases = (refl, (refl, (refl, (refl, (refl, (refl, refl))))))
 
 pub totals :

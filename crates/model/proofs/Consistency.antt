@@ -21,7 +21,7 @@ use Rattle.model.specs.Head.{dims}
 use Rattle.model.specs.Lists.{largest}
 use Rattle.model.specs.Used.{orderUsed}
 use Rattle.model.specs.Delivery.{waits, oldest}
-use Rattle.model.specs.Opening.{openingFault}
+use Rattle.model.specs.Opening.{Accepted}
 use Rattle.model.specs.Request.{Request, Lent}
 use Rattle.model.specs.Tally.{Tally, Order, Paid, N, M, is2, is3, sums, charged, afterAll, tallied}
 use Rattle.model.specs.Claim.{R, noPaid}
@@ -399,6 +399,6 @@ module _ (D : Dims) (b₀ : List ℤ) (t : Tally) (b : List ℤ) (g : Good D b�
   }
 
 -- after any list of calls from a book that opening accepts
-pub consistent : (s : Lent) → openingFault (s .nums) (s .names) .number ≡ 0 → (rs : List Request) → Consistent (dims (s .nums)) (afterAll s rs .nums)
+pub consistent : (s : Lent) → Accepted (s .nums) (s .names) → (rs : List Request) → Consistent (dims (s .nums)) (afterAll s rs .nums)
 consistent s e rs =
     good-consistent (dims (s .nums)) (s .nums) (tallied s rs) (afterAll s rs .nums) (history-good s e rs)

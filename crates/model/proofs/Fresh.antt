@@ -11,14 +11,14 @@ use lib.IntN.{ℤ, pos}
 use lib.ListN.{length}
 use borrow.Author.Tests.{eqb-true, leb-true}
 use Rattle.model.specs.declared.Dims.{Dims}
-use Rattle.model.specs.Tests.{every, allTo, chk}
+use Rattle.model.specs.Tests.{every, allTo}
 use Rattle.model.specs.Numbers.{nat}
 use Rattle.model.specs.Layout.{shapes}
 use Rattle.model.specs.Store.{get, num, rowOf}
-use Rattle.model.specs.Head.{dims, headOk}
+use Rattle.model.specs.Head.{dims}
 use Rattle.model.specs.Rows.{historyCount, warehouseRow, warehouseTax, warehouseYtd, districtRow, districtTax, districtYtd, nextOrder, customerRow, discount, balance, ytdPayment, paymentCnt, deliveryCnt, price, stockRow, onHand, stockYtd, orderCnt, remoteCnt}
 use Rattle.model.specs.Used.{itemUsed, namesUsed}
-use Rattle.model.specs.Opening.{newWarehouse, newDistrict, newCustomer, newStock, districtNew, warehouseNew, bookNew, openingFault}
+use Rattle.model.specs.Opening.{newWarehouse, newDistrict, newCustomer, newStock, districtNew, warehouseNew, bookNew, bookTests, Accepted}
 use Rattle.model.specs.Tally.{start}
 use Rattle.model.specs.Claim.{R}
 use Rattle.model.proofs.TestLaws.{Each, every-each, all-at, passed}
@@ -124,10 +124,10 @@ module _ (D : Dims) (b : List ℤ) (names : List ℕ) (e : bookNew D b names ≡
   }
 
 -- a book that opening accepts
-pub opened-fresh : (b : List ℤ) (names : List ℕ) → openingFault b names .number ≡ 0 → Fresh (dims b) b names
-unfolding openingFault
+pub opened-fresh : (b : List ℤ) (names : List ℕ) → Accepted b names → Fresh (dims b) b names
+unfolding Accepted
 opened-fresh b names e =
-    let h = passed (chk (headOk b (length names)) 2 ∷ chk (bookNew (dims b) b names) 3 ∷ []) refl e in
+    let h = passed (bookTests b names) refl e in
     fresh (dims b) b names (h .1 .0) refl (head-shaped b (length names) (h .0))
 
 pub fresh-agrees : (D : Dims) (b : List ℤ) (names : List ℕ) → Fresh D b names → Agrees D b start b
@@ -146,7 +146,7 @@ fresh-agrees D b names f = record {
   };
   item = record { prices = λ i r. refl };
   stock = record {
-    hand = λ w i r s. record { left = num (shapes D) b (onHand w i); times = 0; is = f .hand w i r s; sum = omega arith; high = f .hand-high w i r s };
+    hand = λ w i r s. record { m = num (shapes D) b (onHand w i); is = f .hand w i r s; high = f .hand-high w i r s };
     ytd = f .lots;
     orders-to = λ w i r s. record { m = 0; is = f .orders w i r s; high = omega arith };
     remotes-to = λ w i r s. record { m = 0; is = f .remotes w i r s; high = omega arith };

@@ -17,7 +17,8 @@ use Rattle.model.specs.Head.{dims, dimsTests, sizeTests, headOk}
 use Rattle.model.specs.Names.{byName, namePlace, lastName, firstName, nameOk, padded, compareNames, named, before, namesakes, found, customerOf}
 use Rattle.model.specs.Used.{warehouseUsed, districtUsed, customerUsed, itemUsed, stockUsed, orderUsed, customersUsed, namesUsed, ordersUsed, whoUsed, lineUsed}
 use Rattle.model.specs.LastOrder.{lastAt, lastLong, lastOk, foundOk}
-use Rattle.model.specs.NewOrder.{newAsked, priceOf, orderable, newUsed, newOrderFault, restock, newOrderCommit, orderTotal, newOrderTotal, newOrderAnswer, newOrderBook, newOrderNoted, newOrderLast}
+use Rattle.model.specs.TopUp.{marginOf, liftOf, rowTests, rowOk, topupOk, lifts, restock}
+use Rattle.model.specs.NewOrder.{newAsked, priceOf, orderable, newUsed, newOrderFault, lineLifts, newOrderCommit, orderTotal, newOrderTotal, newOrderAnswer, newOrderBook, newOrderNoted, newOrderLast}
 use Rattle.model.specs.Note.{notePlace, textAt, notesLong, noteOf, moved, replaced}
 use Rattle.model.specs.Payment.{payAsked, payUsed, paymentFault, payer, paymentCommit, paidBalance, paymentAnswer, paymentBook, isBad, noteCommit, paymentNotes}
 use Rattle.model.specs.Delivery.{deliveryAsked, deliverable, deliveryUsed, deliveryFault, waits, oldest, lineAmounts, deliverOrder, deliverDistrict, deliverTo, deliveryCommit, oldestTen, deliveryAnswer, deliveryOrders, deliveryBook}
@@ -28,12 +29,12 @@ use Rattle.model.specs.Text.{isNumber, valueOf, decimal, tabbed, lineTex
 use Rattle.model.specs.RequestLine.{isName, isWho, whoRead, linesRead, readNewOrder, readPayment, readDelivery, readOrderStatus, readStockLevel, readFields, readLine}
 use Rattle.model.specs.AnswerLine.{answerLine, noFormLine, printedFor, leftAfter}
 use Rattle.model.specs.Claim.{lastOrder}
-use Rattle.model.proofs.Listing.{programBook, programNames, programLast, programNotes}
-use Rattle.model.proofs.Readings.{Case, prints, left, Prints, Refuses, refusedBy, opened, everyone, noneOrdered, unwritten}
+use Rattle.model.proofs.Listing.{programBook, programNames, programLast, programNotes, programTopup}
+use Rattle.model.proofs.Readings.{Case, prints, left, Prints, Refuses, refusedBy, opened, everyone, noneOrdered, unwritten, asEver}
 
 -- a book of the program's size with a slice of its own; the program's book
 abbrev sized : List ℤ → List ℤ → Lent
-sized b last = lent b programNames last programNotes
+sized b last = lent b programNames last programNotes programTopup
 
 abbrev program : List ℤ → Lent
 program last = sized programBook last
@@ -86,7 +87,7 @@ history =
 
 -- two depots: the number of depot 2's district 3's customer 2 is at index 25; a 7 stands in depot 2's district 1, at index 20
 abbrev twoDepots : Lent
-twoDepots = lent opened everyone (set (noneOrdered opened) 20 (pos 7)) (unwritten opened)
+twoDepots = lent opened everyone (set (noneOrdered opened) 20 (pos 7)) (unwritten opened) (asEver opened)
 
 abbrev ofTwoDepots : List Case
 ofTwoDepots =
@@ -169,7 +170,7 @@ pub record LastCases : Type 0 where
   pub two-depots-noted : left twoDepots ofTwoDepots .last ≡ (pos 1 ∷ replicate 19 (pos 0)) ++ (pos 7 ∷ replicate 4 (pos 0)) ++ (pos 1 ∷ replicate 14 (pos 0))
 
 pub last-cases : LastCases
-unfolding allTo nat cell balanceOk numbers nameBytes inside place get remap op upTo sumOf lowest largest warehouseTests districtTests customerTests itemTests stockTests slot orderTests lineTests orderOk dims dimsTests sizeTests headOk namePlace lastName firstName nameOk padded compareNames named before namesakes found customerOf warehouseUsed districtUsed customerUsed itemUsed stockUsed orderUsed customersUsed namesUsed ordersUsed whoUsed lineUsed lastLong lastOk foundOk lastOrder newAsked priceOf orderable newUsed newOrderFault restock newOrderCommit orderTotal newOrderTotal newOrderAnswer newOrderBook newOrderNoted newOrderLast payAsked payUsed paymentFault payer paymentCommit paidBalance paymentAnswer paymentBook isBad noteCommit paymentNotes notesLong notePlace textAt noteOf moved replaced deliveryAsked deliverable deliveryUsed deliveryFault waits oldest lineAmounts deliverOrder deliverDistrict deliverTo deliveryCommit oldestTen deliveryAnswer deliveryBook statusAsked statusUsed statusFault statusCustomer statusOrder orderShown linesPart statusAnswer statusPart windowFirst windowCount levelAsked windowUsed levelUsed stockLevelFault lineItems windowItems isLow lowItems stockLevelAnswer answerOf numsAfter lastAfter notesAfter deliveryOrders ones ordersOf shownPart decimal tabbed lineText answerLine noFormLine printedFor leftAfter isNumber valueOf isName isWho whoRead partedBy linesRead readNewOrder readPayment readDelivery readOrderStatus readStockLevel readFields readLine
+unfolding allTo nat cell balanceOk numbers nameBytes inside place get remap op upTo sumOf lowest largest warehouseTests districtTests customerTests itemTests stockTests slot orderTests lineTests orderOk dims dimsTests sizeTests headOk namePlace lastName firstName nameOk padded compareNames named before namesakes found customerOf warehouseUsed districtUsed customerUsed itemUsed stockUsed orderUsed customersUsed namesUsed ordersUsed whoUsed lineUsed lastLong lastOk foundOk lastOrder newAsked priceOf orderable newUsed newOrderFault marginOf liftOf rowTests rowOk topupOk lifts restock lineLifts newOrderCommit orderTotal newOrderTotal newOrderAnswer newOrderBook newOrderNoted newOrderLast payAsked payUsed paymentFault payer paymentCommit paidBalance paymentAnswer paymentBook isBad noteCommit paymentNotes notesLong notePlace textAt noteOf moved replaced deliveryAsked deliverable deliveryUsed deliveryFault waits oldest lineAmounts deliverOrder deliverDistrict deliverTo deliveryCommit oldestTen deliveryAnswer deliveryBook statusAsked statusUsed statusFault statusCustomer statusOrder orderShown linesPart statusAnswer statusPart windowFirst windowCount levelAsked windowUsed levelUsed stockLevelFault lineItems windowItems isLow lowItems stockLevelAnswer answerOf numsAfter lastAfter notesAfter deliveryOrders ones ordersOf shownPart decimal tabbed lineText answerLine noFormLine printedFor leftAfter isNumber valueOf isName isWho whoRead partedBy linesRead readNewOrder readPayment readDelivery readOrderStatus readStockLevel readFields readLine
 last-cases = record {
   printed = refl;
   scan = refl;

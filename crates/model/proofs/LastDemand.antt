@@ -25,34 +25,29 @@ use Rattle.model.specs.StockLevel.{levelAsked, levelUsed, stockLevelFaul
 use Rattle.model.specs.Request.{Request, newOrder, payment, delivery, orderStatus, stockLevel, Lent, lent, faultOf, lastAfter, after}
 use Rattle.model.specs.Tally.{Tally, Order, worth, tallyLines, tallyOrder, tallyPayment, tallyDistricts, count, start, tally, openedOf, afterAll, doneAll, tallied}
 use Rattle.model.specs.Claim.{Started, LastOrders, NeverBy, LastServes}
-use Rattle.model.proofs.TestLaws.{and-right, Passed, PassAt, not-answered, in-range}
+use Rattle.model.proofs.TestLaws.{PassAt, not-answered, in-range}
 use Rattle.model.proofs.NameLaws.{found-number}
 use Rattle.model.proofs.NewOrderFacts.{NewAsked, new-ready}
 use Rattle.model.proofs.Calls.{Good, openedAt, counted, call-step}
-use Rattle.model.proofs.Never.{avoids, avoided}
+use Rattle.model.proofs.Never.{avoided, behind}
 use Rattle.model.proofs.LastLaws.{Lasts, lasts-start, lasts-pay, lasts-districts, lasts-new, lasts-scan, lasts-long, lasts-ok, lasts-found}
 use Rattle.model.proofs.Demand.{history-good}
 
--- a number whose tests all stand behind xs
-behind : (n : ℕ) (xs ys : List Check) → avoids n xs ≡ true → (Passed xs → PassAt n ys) → PassAt n (xs ++ ys)
-behind n [] ys e h = h tt
-behind n (c ∷ xs) ys e h = (avoided n (c ∷ xs) e .0, λ p. behind n xs ys (and-right (not (eqb (c .number) n)) (avoids n xs) e) (λ q. h (p, q)))
-
-module _ (D : Dims) (b₀ : List ℤ) (names : List ℕ) (t : Tally) (b : List ℤ) (g : Good D b₀ t b) (last : List ℤ) (l : Lasts D t last) where
+module _ (D : Dims) (b₀ : List ℤ) (names : List ℕ) (t : Tally) (b : List ℤ) (g : Good D b₀ t b) (last : List ℤ) (l : Lasts D t last) (topup : List ℤ) where
   -- ── one call keeps slice and tally together ──
   new-lasts : (q : NewOrder) (ls : List Line)
-      → Lasts D (cond (eqb (newOrderFault b names last q ls .number) 0) (count (openedAt D b₀ names) (newOrder q ls) t) t) (newOrderLast b names last q ls)
+      → Lasts D (cond (eqb (newOrderFault b names last topup q ls .number) 0) (count (openedAt D b₀ names) (newOrder q ls) t) t) (newOrderLast b names last topup q ls)
   unfolding newOrderLast newOrderNoted count
-  new-lasts q ls = go (eqb (newOrderFault b names last q ls .number) 0) refl
+  new-lasts q ls = go (eqb (newOrderFault b names last topup q ls .number) 0) refl
     where
       o : Order
       o = record { customer = q .customer; sum = worth (openedAt D b₀ names .prices) ls }
 
-      go : (x : Bool) → eqb (newOrderFault b names last q ls .number) 0 ≡ x
+      go : (x : Bool) → eqb (newOrderFault b names last topup q ls .number) 0 ≡ x
           → Lasts D (cond x (tallyOrder (q .warehouse) (q .district) o (tallyLines ls t)) t) (cond x (newOrderNoted (dims b) b last q) last)
       go false e = l
       go true e =
-          let a = subst (λ (d : Dims). NewAsked d q ls) (g .agrees .head .head) (new-ready b names last q ls (eqb-true _ _ e) .asked) in
+          let a = subst (λ (d : Dims). NewAsked d q ls) (g .agrees .head .head) (new-ready b names last topup q ls (eqb-true _ _ e) .asked) in
           subst (λ (d : Dims). Lasts D (tallyOrder (q .warehouse) (q .district) o (tallyLines ls t)) (newOrderNoted d b last q)) (sym (g .agrees .head .head))
           (lasts-new D b₀ t b g (q .warehouse) (q .district) (a .w) (a .k) last l ls o (a .c))
 
@@ -61,7 +56,7 @@ module _ (D : Dims) (b₀ : List ℤ) (names : List ℕ) (t : Tally) (b : List �
   unwritten true t′ h = h
   unwritten false t′ h = l
 
-  lasts-call : (notes : List ℕ) (r : Request) → Lasts D (counted D b₀ t (lent b names last notes) r) (lastAfter (lent b names last notes) r)
+  lasts-call : (notes : List ℕ) (r : Request) → Lasts D (counted D b₀ t (lent b names last notes topup) r) (lastAfter (lent b names last notes topup) r)
   unfolding faultOf lastAfter count
   lasts-call notes (newOrder q ls) = new-lasts q ls
   lasts-call notes (payment q who) =
@@ -72,13 +67,13 @@ module _ (D : Dims) (b₀ : List ℤ) (names : List ℕ) (t : Tally) (b : List �
   lasts-call notes (stockLevel q) = unwritten (eqb (stockLevelFault b names q .number) 0) t l
 
   -- ── 13, call by call ──
-  new-13 : (q : NewOrder) (ls : List Line) → PassAt 13 (newAsked D q ls ++ newUsed D b last q ls)
+  new-13 : (q : NewOrder) (ls : List Line) → PassAt 13 (newAsked D q ls ++ newUsed D b last topup q ls)
   unfolding newAsked newUsed
-  new-13 q ls = behind 13 (newAsked D q ls) (newUsed D b last q ls) refl (λ h.
+  new-13 q ls = behind 13 (newAsked D q ls) (newUsed D b last topup q ls) refl (λ h.
       let w = in-range (q .warehouse) (D .warehouses) (h .0) in
       let k = in-range (q .district) 10 (h .1 .0) in
       let ok = lasts-ok D b₀ t b g (q .warehouse) (q .district) w k last l in
-      (tt, λ _. (tt, λ _. (tt, λ _. (tt, λ _. (lasts-long D t last l, λ _. (ok, λ _. (tt, λ _. (tt, λ _. tt)))))))))
+      (tt, λ _. (tt, λ _. (tt, λ _. (tt, λ _. (lasts-long D t last l, λ _. (ok, λ _. (tt, λ _. (tt, λ _. (tt, λ _. tt))))))))))
 
   status-13 : (q : OrderStatus) (who : Who) → PassAt 13 (statusAsked D q who ++ statusUsed D b names last q who)
   unfolding statusAsked statusUsed statusCustomer statusOrder
@@ -94,9 +89,9 @@ module _ (D : Dims) (b₀ : List ℤ) (names : List ℕ) (t : Tally) (b : List �
   not-13 f p =
       not-answered 13 (chk (headOk b (length names)) 2 ∷ f (dims b)) (omega arith) (tt, λ _. subst (λ (d : Dims). PassAt 13 (f d)) (sym (g .agrees .head .head)) p)
 
-  serves-call : (notes : List ℕ) (r : Request) → faultOf (lent b names last notes) r .number ≢ 13
+  serves-call : (notes : List ℕ) (r : Request) → faultOf (lent b names last notes topup) r .number ≢ 13
   unfolding faultOf newOrderFault paymentFault deliveryFault statusFault stockLevelFault payAsked payUsed deliveryAsked deliveryUsed levelAsked levelUsed
-  serves-call notes (newOrder q ls) = not-13 (λ d. newAsked d q ls ++ newUsed d b last q ls) (new-13 q ls)
+  serves-call notes (newOrder q ls) = not-13 (λ d. newAsked d q ls ++ newUsed d b last topup q ls) (new-13 q ls)
   serves-call notes (payment q who) = not-13 (λ d. payFirst d notes q who ++ payUsed d b names q who) (avoided 13 (payFirst D notes q who ++ payUsed D b names q who) refl)
   serves-call notes (delivery q) = not-13 (λ d. deliveryAsked d q ++ deliveryUsed d b q) (avoided 13 (deliveryAsked D q ++ deliveryUsed D b q) refl)
   serves-call notes (orderStatus q who) = not-13 (λ d. statusAsked d q who ++ statusUsed d b names last q who) (status-13 q who)
@@ -105,21 +100,24 @@ module _ (D : Dims) (b₀ : List ℤ) (names : List ℕ) (t : Tally) (b : List �
 -- ── any list ──
 module _ (D : Dims) (b₀ : List ℤ) where
   -- one call more
-  next-lasts : (t : Tally) (s : Lent) → Good D b₀ t (s .nums) → Lasts D t (s .last) → (r : Request) → Lasts D (counted D b₀ t s r) (lastAfter s r)
-  next-lasts t s g l r = lasts-call D b₀ (s .names) t (s .nums) g (s .last) l (s .notes) r
+  pub next-lasts : (t : Tally) (s : Lent) → Good D b₀ t (s .nums) → Lasts D t (s .last) → (r : Request) → Lasts D (counted D b₀ t s r) (lastAfter s r)
+  next-lasts t s g l r = lasts-call D b₀ (s .names) t (s .nums) g (s .last) l (s .topup) (s .notes) r
 
   lasts-list : (rs : List Request) (t : Tally) (s : Lent) → Good D b₀ t (s .nums) → Lasts D t (s .last)
       → Lasts D (tally (openedAt D b₀ (s .names)) (doneAll s rs) t) (afterAll s rs .last)
   lasts-list [] t s g l = l
   lasts-list (r ∷ rs) t s g l = lasts-list rs (counted D b₀ t s r) (after s r) (call-step D b₀ t s g r) (next-lasts t s g l r)
 
+  pub serves-next : (t : Tally) (s : Lent) → Good D b₀ t (s .nums) → Lasts D t (s .last) → (r : Request) → faultOf s r .number ≢ 13
+  serves-next t s g l r = serves-call D b₀ (s .names) t (s .nums) g (s .last) l (s .topup) (s .notes) r
+
   serves-list : (rs : List Request) (t : Tally) (s : Lent) → Good D b₀ t (s .nums) → Lasts D t (s .last) → NeverBy 13 (doneAll s rs)
   serves-list [] t s g l = tt
   serves-list (r ∷ rs) t s g l =
-      (serves-call D b₀ (s .names) t (s .nums) g (s .last) l (s .notes) r, serves-list rs (counted D b₀ t s r) (after s r) (call-step D b₀ t s g r) (next-lasts t s g l r))
+      (serves-next t s g l r, serves-list rs (counted D b₀ t s r) (after s r) (call-step D b₀ t s g r) (next-lasts t s g l r))
 
 -- all 0 is the empty tally's slice
-started-lasts : (s : Lent) → Started s → Lasts (dims (s .nums)) start (s .last)
+pub started-lasts : (s : Lent) → Started s → Lasts (dims (s .nums)) start (s .last)
 started-lasts s h = subst (λ (last : List ℤ). Lasts (dims (s .nums)) start last) (sym (h .zeros)) (lasts-start (dims (s .nums)))
 
 -- the slice and the tally after any list

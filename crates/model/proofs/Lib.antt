@@ -41,13 +41,15 @@ pub mod Fresh
 pub mod Calls
 pub mod Never
 pub mod LastLaws
+pub mod Steady
+pub mod TopUpLaws
 pub mod Demand
 pub mod LastDemand
-pub mod Steady
 pub mod NoteLaws
 pub mod NoteDemand
 pub mod QueueLaws
 pub mod QueueDemand
+pub mod TopUpDemand
 pub mod Masters
 pub mod SlotLaws
 pub mod Consistency
@@ -56,3 +58,4 @@ pub mod Readings
 pub mod LastCases
 pub mod NoteCases
 pub mod QueueCases
+pub mod TopUpCases

@@ -20,8 +20,9 @@ use Rattle.model.specs.Head.{dims, dimsTests, sizeTests, headOk}
 use Rattle.model.specs.Names.{namePlace, lastName, firstName, nameOk, padded, compareNames, named, before, namesakes, found, customerOf}
 use Rattle.model.specs.Used.{warehouseUsed, districtUsed, customerUsed, itemUsed, stockUsed, orderUsed, customersUsed, namesUsed, ordersUsed, whoUsed, lineUsed}
 use Rattle.model.specs.LastOrder.{lastLong, lastOk, foundOk}
+use Rattle.model.specs.TopUp.{marginOf, liftOf, rowTests, rowOk, topupOk, lifts, restock}
 use Rattle.model.specs.Opening.{newWarehouse, newDistrict, newCustomer, newStock, districtNew, warehouseNew, bookNew, openingFault}
-use Rattle.model.specs.NewOrder.{newAsked, priceOf, orderable, newUsed, newOrderFault, restock, newOrderCommit, orderTotal, newOrderTotal, newOrderAnswer, newOrderBook, newOrderNoted, newOrderLast}
+use Rattle.model.specs.NewOrder.{newAsked, priceOf, orderable, newUsed, newOrderFault, lineLifts, newOrderCommit, orderTotal, newOrderTotal, newOrderAnswer, newOrderBook, newOrderNoted, newOrderLast}
 use Rattle.model.specs.Note.{notePlace, textAt, notesLong, noteOf, moved, replaced}
 use Rattle.model.specs.Payment.{payAsked, payUsed, paymentFault, payer, paymentCommit, paidBalance, paymentAnswer, paymentBook, isBad, noteCommit, paymentNotes}
 use Rattle.model.specs.Delivery.{deliveryAsked, deliverable, deliveryUsed, deliveryFault, waits, oldest, lineAmounts, deliverOrder, deliverDistrict, deliverTo, deliveryCommit, oldestTen, deliveryAnswer, deliveryOrders, deliveryBook}
@@ -62,6 +63,10 @@ programLast = replicate 20 (pos 0)
 abbrev pub programNotes : List ℕ
 programNotes = replicate 10000 32
 
+-- R-6: 10 and 91 "throughout"
+abbrev pub programTopup : List ℤ
+programTopup = times 5 (pos 10 ∷ pos 91 ∷ [])
+
 -- a line of the paper, in which each space stands for a tab, as bytes
 abbrev pub bytes : String → List ℕ
 bytes none = []
@@ -78,12 +83,12 @@ answered s (x ∷ xs) = printedFor s (readLine x) ∷ answered (leftAfter s (rea
 pub lengths : (length programBook ∷ length programNames ∷ []) ≡ 3479 ∷ 640 ∷ []
 lengths = refl
 
-pub accepted : openingFault programBook programNames .number ≡ 0
-unfolding openingFault headOk dims cell nat dimsTests sizeTests numbers nameBytes bookNew warehouseNew districtNew newWarehouse newDistrict newCustomer newStock namesUsed nameOk namePlace itemUsed itemTests get place inside allTo
+pub accepted : openingFault programBook programNames programTopup .number ≡ 0
+unfolding openingFault marginOf liftOf rowTests rowOk topupOk headOk dims cell nat dimsTests sizeTests numbers nameBytes bookNew warehouseNew districtNew newWarehouse newDistrict newCustomer newStock namesUsed nameOk namePlace itemUsed itemTests get place inside allTo
 accepted = refl
 
 -- the listing of document 01
-pub listing : answered (lent programBook programNames programLast programNotes) (lines (
+pub listing : answered (lent programBook programNames programLast programNotes programTopup) (lines (
     "N 1 1 1 100 1 1 10 2 1 3" ∷
     "N 1 1 1 101 1 1 1 4 1 1" ∷
     "N 1 1 2 102 1 1 1" ∷
@@ -99,5 +104,5 @@ pub listing : answered (lent programBook programNames programLast programNotes) 
     "P 0 2 -500" ∷
     "S 0 1 1750 1 100 3 1 1 10 1000 200 2 1 3 750 200" ∷
     "L 0 1" ∷ [])
-unfolding allTo nat cell balanceOk numbers nameBytes inside place get remap op upTo sumOf lowest largest warehouseTests districtTests customerTests itemTests stockTests slot orderTests lineTests orderOk dims dimsTests sizeTests headOk namePlace lastName firstName nameOk padded compareNames named before namesakes found customerOf warehouseUsed districtUsed customerUsed itemUsed stockUsed orderUsed customersUsed namesUsed ordersUsed whoUsed lineUsed lastLong lastOk foundOk newAsked priceOf orderable newUsed newOrderFault restock newOrderCommit orderTotal newOrderTotal newOrderAnswer newOrderBook newOrderNoted newOrderLast payAsked payUsed paymentFault payer paymentCommit paidBalance paymentAnswer paymentBook isBad noteCommit paymentNotes notesLong notePlace textAt noteOf moved replaced deliveryAsked deliverable deliveryUsed deliveryFault waits oldest lineAmounts deliverOrder deliverDistrict deliverTo deliveryCommit oldestTen deliveryAnswer deliveryBook statusAsked statusUsed statusFault statusCustomer statusOrder orderShown linesPart statusAnswer statusPart windowFirst windowCount levelAsked windowUsed levelUsed stockLevelFault lineItems windowItems isLow lowItems stockLevelAnswer answerOf numsAfter lastAfter notesAfter deliveryOrders ones ordersOf shownPart decimal tabbed lineText answerLine noFormLine printedFor leftAfter isNumber valueOf isName isWho whoRead partedBy linesRead readNewOrder readPayment readDelivery readOrderStatus readStockLevel readFields readLine
+unfolding allTo nat cell balanceOk numbers nameBytes inside place get remap op upTo sumOf lowest largest warehouseTests districtTests customerTests itemTests stockTests slot orderTests lineTests orderOk dims dimsTests sizeTests headOk namePlace lastName firstName nameOk padded compareNames named before namesakes found customerOf warehouseUsed districtUsed customerUsed itemUsed stockUsed orderUsed customersUsed namesUsed ordersUsed whoUsed lineUsed lastLong lastOk foundOk newAsked priceOf orderable newUsed newOrderFault marginOf liftOf rowTests rowOk topupOk lifts restock lineLifts newOrderCommit orderTotal newOrderTotal newOrderAnswer newOrderBook newOrderNoted newOrderLast payAsked payUsed paymentFault payer paymentCommit paidBalance paymentAnswer paymentBook isBad noteCommit paymentNotes notesLong notePlace textAt noteOf moved replaced deliveryAsked deliverable deliveryUsed deliveryFault waits oldest lineAmounts deliverOrder deliverDistrict deliverTo deliveryCommit oldestTen deliveryAnswer deliveryBook statusAsked statusUsed statusFault statusCustomer statusOrder orderShown linesPart statusAnswer statusPart windowFirst windowCount levelAsked windowUsed levelUsed stockLevelFault lineItems windowItems isLow lowItems stockLevelAnswer answerOf numsAfter lastAfter notesAfter deliveryOrders ones ordersOf shownPart decimal tabbed lineText answerLine noFormLine printedFor leftAfter isNumber valueOf isName isWho whoRead partedBy linesRead readNewOrder readPayment readDelivery readOrderStatus readStockLevel readFields readLine
 listing = refl

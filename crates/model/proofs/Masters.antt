@@ -10,7 +10,7 @@ use Rattle.model.specs.Layout.{shapes}
 use Rattle.model.specs.Store.{get}
 use Rattle.model.specs.Rows.{warehouseTax, districtTax, customerRow, discount, price}
 use Rattle.model.specs.Head.{dims}
-use Rattle.model.specs.Opening.{openingFault}
+use Rattle.model.specs.Opening.{Accepted}
 use Rattle.model.specs.Request.{Request, Lent}
 use Rattle.model.specs.Tally.{afterAll}
 use Rattle.model.specs.Claim.{R}
@@ -28,7 +28,7 @@ pub record Masters (d : Dims) (b₀ b : List ℤ) : Type 0 where
   pub discounts : (w k c : ℕ) → R (d .warehouses) w → R 10 k → R (d .customers) c → get (shapes d) b (discount w k c) ≡ get (shapes d) b₀ (discount w k c)
   pub prices : (i : ℕ) → R (d .items) i → get (shapes d) b (price i) ≡ get (shapes d) b₀ (price i)
 
-pub names-and-masters : (s : Lent) → openingFault (s .nums) (s .names) .number ≡ 0 → (rs : List Request) → Masters (dims (s .nums)) (s .nums) (afterAll s rs .nums)
+pub names-and-masters : (s : Lent) → Accepted (s .nums) (s .names) → (rs : List Request) → Masters (dims (s .nums)) (s .nums) (afterAll s rs .nums)
 names-and-masters s e rs =
     let a = history-good s e rs .agrees in
     record {

@@ -34,7 +34,7 @@ use Rattle.model.specs.StockLevel.{levelAsked, levelUsed, stockLevelFaul
 use Rattle.model.specs.Request.{Request, newOrder, payment, delivery, orderStatus, stockLevel, Lent, lent, faultOf, after}
 use Rattle.model.specs.Tally.{Tally, N, M, charged, doneAll}
 use Rattle.model.specs.Claim.{R, Never}
-use Rattle.model.proofs.TestLaws.{every-each, each-every, and-left, and-right, all-to, PassAt, Need, not-answered, in-within, in-range}
+use Rattle.model.proofs.TestLaws.{every-each, each-every, and-left, and-right, all-to, Passed, PassAt, Need, not-answered, in-within, in-range}
 use Rattle.model.proofs.NumberLaws.{nat-pos}
 use Rattle.model.proofs.Fields.{Dimensioned, head-num}
 use Rattle.model.proofs.RowFacts.{WarehouseIn, DistrictIn, CustomerIn, ItemIn, StockIn, OrderIn, in-warehouse, in-district, in-customer, in-item, in-stock, at-customers, at-orders, all-in-map, none-failing, in-all-of}
@@ -58,6 +58,15 @@ avoided n (c ∷ cs) e =
     let ne = not-true (eqb (c .number) n) (and-left (not (eqb (c .number) n)) (avoids n cs) e) in
     let rest = avoided n cs (and-right (not (eqb (c .number) n)) (avoids n cs) e) in
     (subst (λ (x : Bool). Need x (c .ok ≡ true)) (sym ne) tt, λ _. rest)
+
+-- such a number is not answered
+pub unanswered : (n : ℕ) (cs : List Check) → 1 ≤ n → avoids n cs ≡ true → fault cs .number ≢ n
+unanswered n cs h e = not-answered n cs h (avoided n cs e)
+
+-- a number whose tests all stand behind xs
+pub behind : (n : ℕ) (xs ys : List Check) → avoids n xs ≡ true → (Passed xs → PassAt n ys) → PassAt n (xs ++ ys)
+behind n [] ys e h = h tt
+behind n (c ∷ xs) ys e h = (avoided n (c ∷ xs) e .0, λ p. behind n xs ys (and-right (not (eqb (c .number) n)) (avoids n xs) e) (λ q. h (p, q)))
 
 -- a balance within the money's range on both sides
 bal-fits : (a p : ℕ) → a ≤ 999999999999 → p ≤ 999999999999 → balanceOk (bal a p) ≡ true
@@ -178,9 +187,8 @@ module _ (D : Dims) (b₀ : List ℤ) (names : List ℕ) (fr : Fresh D b₀ name
 
   stock-row : (w i : ℕ) → R (D .warehouses) w → R (D .items) i → StockIn D b w i
   stock-row w i r s =
-      let h = g .agrees .stock .hand w i r s in
       record {
-        hand = rw (h .is, nat-pos (h .left)) (h .high);
+        hand = count-nat (g .agrees .stock .hand w i r s);
         ytd = rw (g .agrees .stock .ytd w i r s, nat-pos (t .lots w i)) (omega (arith, lots-le w i));
         orders = omega (arith, count-nat (g .agrees .stock .orders-to w i r s), lots-le w i);
         remotes = omega (arith, count-nat (g .agrees .stock .remotes-to w i r s), lots-le w i);
@@ -276,9 +284,9 @@ module _ (D : Dims) (b₀ : List ℤ) (names : List ℕ) (fr : Fresh D b₀ name
     ),
   )
 
-  new-9 : (last : List ℤ) (q : NewOrder) (ls : List Line) → PassAt 9 (chk (headOk b (length names)) 2 ∷ newAsked D q ls ++ newUsed D b last q ls)
+  new-9 : (last topup : List ℤ) (q : NewOrder) (ls : List Line) → PassAt 9 (chk (headOk b (length names)) 2 ∷ newAsked D q ls ++ newUsed D b last topup q ls)
   unfolding newAsked newUsed
-  new-9 last q ls = (
+  new-9 last topup q ls = (
     tt,
     λ _. (
       tt,
@@ -301,7 +309,7 @@ module _ (D : Dims) (b₀ : List ℤ) (names : List ℕ) (fr : Fresh D b₀ name
                         in-district D b (q .warehouse) (q .district) (district-row (q .warehouse) (q .district) w k),
                         λ _. (
                           in-customer D b (q .warehouse) (q .district) (q .customer) (customer-row (q .warehouse) (q .district) (q .customer) w k c),
-                          λ _. (lines-pass ls e8, λ _. (tt, λ _. (tt, λ _. (tt, λ _. (tt, λ _. tt))))),
+                          λ _. (lines-pass ls e8, λ _. (tt, λ _. (tt, λ _. (tt, λ _. (tt, λ _. (tt, λ _. tt)))))),
                         ),
                       ),
                     ),
@@ -380,16 +388,21 @@ module _ (D : Dims) (b₀ : List ℤ) (names : List ℕ) (fr : Fresh D b₀ name
   sized : (f : Dims → List Check) → Not239 (fault (chk (headOk b (length names)) 2 ∷ f D) .number) → Not239 (fault (chk (headOk b (length names)) 2 ∷ f (dims b)) .number)
   sized f h = subst (λ (d : Dims). Not239 (fault (chk (headOk b (length names)) 2 ∷ f d) .number)) (sym (g .agrees .head .head)) h
 
-  never-call : (last : List ℤ) (notes : List ℕ) (r : Request) → Not239 (faultOf (lent b names last notes) r .number)
+  never-call : (last : List ℤ) (notes : List ℕ) (topup : List ℤ) (r : Request) → Not239 (faultOf (lent b names last notes topup) r .number)
   unfolding faultOf newOrderFault paymentFault deliveryFault statusFault stockLevelFault newAsked newUsed payAsked payUsed deliveryAsked deliveryUsed statusAsked statusUsed levelAsked levelUsed
-  never-call last notes (newOrder q ls) = sized (λ d. newAsked d q ls ++ newUsed d b last q ls) (all-three (newAsked D q ls ++ newUsed D b last q ls) refl refl (new-9 last q ls))
-  never-call last notes (payment q who) = sized (λ d. payFirst d notes q who ++ payUsed d b names q who) (all-three (payFirst D notes q who ++ payUsed D b names q who) refl refl (pay-9 notes q who))
-  never-call last notes (delivery q) = sized (λ d. deliveryAsked d q ++ deliveryUsed d b q) (all-three (deliveryAsked D q ++ deliveryUsed D b q) refl refl (delivery-9 q))
-  never-call last notes (orderStatus q who) = sized (λ d. statusAsked d q who ++ statusUsed d b names last q who) (all-three (statusAsked D q who ++ statusUsed D b names last q who) refl refl (status-9 last q who))
-  never-call last notes (stockLevel q) = sized (λ d. levelAsked d q ++ levelUsed d b q) (all-three (levelAsked D q ++ levelUsed D b q) refl refl (level-9 q))
+  never-call last notes topup (newOrder q ls) = sized (λ d. newAsked d q ls ++ newUsed d b last topup q ls) (all-three (newAsked D q ls ++ newUsed D b last topup q ls) refl refl (new-9 last topup q ls))
+  never-call last notes topup (payment q who) = sized (λ d. payFirst d notes q who ++ payUsed d b names q who) (all-three (payFirst D notes q who ++ payUsed D b names q who) refl refl (pay-9 notes q who))
+  never-call last notes topup (delivery q) = sized (λ d. deliveryAsked d q ++ deliveryUsed d b q) (all-three (deliveryAsked D q ++ deliveryUsed D b q) refl refl (delivery-9 q))
+  never-call last notes topup (orderStatus q who) = sized (λ d. statusAsked d q who ++ statusUsed d b names last q who) (all-three (statusAsked D q who ++ statusUsed D b names last q who) refl refl (status-9 last q who))
+  never-call last notes topup (stockLevel q) = sized (λ d. levelAsked d q ++ levelUsed d b q) (all-three (levelAsked D q ++ levelUsed D b q) refl refl (level-9 q))
+
+-- one call, whatever is lent beside numbers and names
+pub never-step : (D : Dims) (b₀ : List ℤ) (t : Tally) (s : Lent) → Fresh D b₀ (s .names) → Good D b₀ t (s .nums) → (r : Request)
+    → (faultOf s r .number ≢ 2) × ((faultOf s r .number ≢ 3) × (faultOf s r .number ≢ 9))
+never-step D b₀ t s fr g r = never-call D b₀ (s .names) fr t (s .nums) g (s .last) (s .notes) (s .topup) r
 
 pub never-list : (D : Dims) (b₀ : List ℤ) (rs : List Request) (t : Tally) (s : Lent) → Fresh D b₀ (s .names) → Good D b₀ t (s .nums) → Never (doneAll s rs)
 never-list D b₀ [] t s fr g = tt
 never-list D b₀ (r ∷ rs) t s fr g =
-    let n = never-call D b₀ (s .names) fr t (s .nums) g (s .last) (s .notes) r in
+    let n = never-step D b₀ t s fr g r in
     (n .0, (n .1 .0, (n .1 .1, never-list D b₀ rs (counted D b₀ t s r) (after s r) fr (call-step D b₀ t s g r))))

@@ -19,7 +19,8 @@ use Rattle.model.specs.Head.{dims, dimsTests, sizeTests, headOk}
 use Rattle.model.specs.Names.{namePlace, lastName, firstName, nameOk, padded, compareNames, named, before, namesakes, found, customerOf}
 use Rattle.model.specs.Used.{warehouseUsed, districtUsed, customerUsed, itemUsed, stockUsed, orderUsed, customersUsed, namesUsed, ordersUsed, whoUsed, lineUsed}
 use Rattle.model.specs.LastOrder.{lastLong, lastOk, foundOk}
-use Rattle.model.specs.NewOrder.{newAsked, priceOf, orderable, newUsed, newOrderFault, restock, newOrderCommit, orderTotal, newOrderTotal, newOrderAnswer, newOrderBook, newOrderNoted, newOrderLast}
+use Rattle.model.specs.TopUp.{marginOf, liftOf, rowTests, rowOk, topupOk, lifts, restock}
+use Rattle.model.specs.NewOrder.{newAsked, priceOf, orderable, newUsed, newOrderFault, lineLifts, newOrderCommit, orderTotal, newOrderTotal, newOrderAnswer, newOrderBook, newOrderNoted, newOrderLast}
 use Rattle.model.specs.Note.{notePlace, textAt, notesLong, noteOf, moved, replaced}
 use Rattle.model.specs.Payment.{payAsked, payUsed, paymentFault, payer, paymentCommit, paidBalance, paymentAnswer, paymentBook, isBad, noteCommit, paymentNotes}
 use Rattle.model.specs.Delivery.{deliveryAsked, deliverable, deliveryUsed, deliveryFault, waits, oldest, lineAmounts, deliverOrder, deliverDistrict, deliverTo, deliveryCommit, oldestTen, deliveryAnswer, deliveryOrders, deliveryBook}
@@ -29,8 +30,8 @@ use Rattle.model.specs.Request.{Lent, lent, answerOf, ordersOf, shownPar
 use Rattle.model.specs.Text.{isNumber, valueOf, decimal, tabbed, lineText, partedBy}
 use Rattle.model.specs.RequestLine.{isName, isWho, whoRead, linesRead, readNewOrder, readPayment, readDelivery, readOrderStatus, readStockLevel, readFields, readLine}
 use Rattle.model.specs.AnswerLine.{answerLine, noFormLine, printedFor, leftAfter}
-use Rattle.model.proofs.Listing.{programBook, programNames, programLast, programNotes}
-use Rattle.model.proofs.Readings.{Case, prints, left, Prints, Refuses, opened, everyone, people, smallOf, noneOrdered, unwritten}
+use Rattle.model.proofs.Listing.{programBook, programNames, programLast, programNotes, programTopup}
+use Rattle.model.proofs.Readings.{Case, prints, left, Prints, Refuses, opened, everyone, people, smallOf, noneOrdered, unwritten, asEver}
 
 -- bytes as they are written
 abbrev written : String → List ℕ
@@ -43,7 +44,7 @@ Noting s cs notes = Prints s cs × (left s cs .notes ≡ notes)
 
 -- a book of the program's size with a text of its own
 abbrev sized : List ℤ → List ℕ → Lent
-sized b notes = lent b programNames programLast notes
+sized b notes = lent b programNames programLast notes programTopup
 
 -- the program's book with credit 1 for customer 2 of district 1, whose row starts at index 6 + 2 + 30 + 6; with all 8 slots of history taken; with the
 -- depot's money out of range
@@ -62,11 +63,11 @@ dense = replicate 500 65 ++ (replicate 490 66 ++ replicate 10 67) ++ replicate 9
 
 -- the book of two depots with credit 1 for the customer whose row starts at index p
 abbrev twoDepots : ℕ → Lent
-twoDepots p = lent (set opened p (pos 1)) everyone (noneOrdered opened) (unwritten opened)
+twoDepots p = lent (set opened p (pos 1)) everyone (noneOrdered opened) (unwritten opened) (asEver opened)
 
 -- W 1, C 5, with credit 1 for the last customer, whose row starts at index 6 + 2 + 30 + 6 · 49
 abbrev five : Lent
-five = lent (set (smallOf 5 0 0 1) 332 (pos 1)) people (noneOrdered (smallOf 5 0 0 1)) (unwritten (smallOf 5 0 0 1))
+five = lent (set (smallOf 5 0 0 1) 332 (pos 1)) people (noneOrdered (smallOf 5 0 0 1)) (unwritten (smallOf 5 0 0 1)) (asEver (smallOf 5 0 0 1))
 
 -- a payment of customer 2, and one that any text of a wrong length refuses
 abbrev paid : List Case
@@ -153,7 +154,7 @@ pub record NoteCases : Type 0 where
       ∷ []) []
 
 pub note-cases : NoteCases
-unfolding allTo nat cell balanceOk numbers nameBytes inside place get remap op upTo sumOf lowest largest warehouseTests districtTests customerTests itemTests stockTests slot orderTests lineTests orderOk dims dimsTests sizeTests headOk namePlace lastName firstName nameOk padded compareNames named before namesakes found customerOf warehouseUsed districtUsed customerUsed itemUsed stockUsed orderUsed customersUsed namesUsed ordersUsed whoUsed lineUsed lastLong lastOk foundOk newAsked priceOf orderable newUsed newOrderFault restock newOrderCommit orderTotal newOrderTotal newOrderAnswer newOrderBook newOrderNoted newOrderLast payAsked payUsed paymentFault payer paymentCommit paidBalance paymentAnswer paymentBook isBad noteCommit paymentNotes notesLong notePlace textAt noteOf moved replaced deliveryAsked deliverable deliveryUsed deliveryFault waits oldest lineAmounts deliverOrder deliverDistrict deliverTo deliveryCommit oldestTen deliveryAnswer deliveryBook statusAsked statusUsed statusFault statusCustomer statusOrder orderShown linesPart statusAnswer statusPart windowFirst windowCount levelAsked windowUsed levelUsed stockLevelFault lineItems windowItems isLow lowItems stockLevelAnswer answerOf numsAfter lastAfter notesAfter deliveryOrders ones ordersOf shownPart decimal tabbed lineText answerLine noFormLine printedFor leftAfter isNumber valueOf isName isWho whoRead partedBy linesRead readNewOrder readPayment readDelivery readOrderStatus readStockLevel readFields readLine
+unfolding allTo nat cell balanceOk numbers nameBytes inside place get remap op upTo sumOf lowest largest warehouseTests districtTests customerTests itemTests stockTests slot orderTests lineTests orderOk dims dimsTests sizeTests headOk namePlace lastName firstName nameOk padded compareNames named before namesakes found customerOf warehouseUsed districtUsed customerUsed itemUsed stockUsed orderUsed customersUsed namesUsed ordersUsed whoUsed lineUsed lastLong lastOk foundOk newAsked priceOf orderable newUsed newOrderFault marginOf liftOf rowTests rowOk topupOk lifts restock lineLifts newOrderCommit orderTotal newOrderTotal newOrderAnswer newOrderBook newOrderNoted newOrderLast payAsked payUsed paymentFault payer paymentCommit paidBalance paymentAnswer paymentBook isBad noteCommit paymentNotes notesLong notePlace textAt noteOf moved replaced deliveryAsked deliverable deliveryUsed deliveryFault waits oldest lineAmounts deliverOrder deliverDistrict deliverTo deliveryCommit oldestTen deliveryAnswer deliveryBook statusAsked statusUsed statusFault statusCustomer statusOrder orderShown linesPart statusAnswer statusPart windowFirst windowCount levelAsked windowUsed levelUsed stockLevelFault lineItems windowItems isLow lowItems stockLevelAnswer answerOf numsAfter lastAfter notesAfter deliveryOrders ones ordersOf shownPart decimal tabbed lineText answerLine noFormLine printedFor leftAfter isNumber valueOf isName isWho whoRead partedBy linesRead readNewOrder readPayment readDelivery readOrderStatus readStockLevel readFields readLine
 note-cases = record {
   by-number = (refl, refl);
   by-name = (refl, refl);

@@ -35,7 +35,7 @@ use Rattle.model.proofs.PaymentFacts.{PayReady, pay-ready}
 use Rattle.model.proofs.Parts.{hit2}
 use Rattle.model.proofs.Sane.{lines-leave}
 use Rattle.model.proofs.Calls.{openedAt, counted}
-use Rattle.model.proofs.Never.{avoids, avoided}
+use Rattle.model.proofs.Never.{avoids, avoided, unanswered}
 use Rattle.model.proofs.Steady.{Steady, steady-call}
 use Rattle.model.proofs.NoteLaws.{take-inner, note-is, newest-more, newest-none, length-replaced, length-moved, text-whole, text-in, text-spaces, length-text, text-own, text-other}
 
@@ -257,12 +257,11 @@ length-stays s (r ∷ rs) = length-stays (after s r) rs ∙ length-call s r
 -- ── 14 ──
 -- a call without a test that 14 is the number of
 not-14 : (s : Lent) (asked used : List Check) → avoids 14 (asked ++ used) ≡ true → staged (headOk (s .nums) (length (s .names))) asked used .number ≢ 14
-not-14 s asked used e =
-    not-answered 14 (chk (headOk (s .nums) (length (s .names))) 2 ∷ asked ++ used) (omega arith) (tt, λ _. avoided 14 (asked ++ used) e)
+not-14 s asked used e = unanswered 14 (chk (headOk (s .nums) (length (s .names))) 2 ∷ asked ++ used) (omega arith) e
 
 serves-call : (s : Lent) → length (s .notes) ≡ noteBytes (dims (s .nums)) → (r : Request) → faultOf s r .number ≢ 14
 unfolding faultOf newOrderFault paymentFault deliveryFault statusFault stockLevelFault newAsked newUsed payAsked payUsed deliveryAsked deliveryUsed statusAsked statusUsed levelAsked levelUsed notesLong
-serves-call s e (newOrder q ls) = not-14 s (newAsked (dims (s .nums)) q ls) (newUsed (dims (s .nums)) (s .nums) (s .last) q ls) refl
+serves-call s e (newOrder q ls) = not-14 s (newAsked (dims (s .nums)) q ls) (newUsed (dims (s .nums)) (s .nums) (s .last) (s .topup) q ls) refl
 serves-call s e (payment q who) =
     let d = dims (s .nums) in
     not-answered 14 (chk (headOk (s .nums) (length (s .names))) 2 ∷ payFirst d (s .notes) q who ++ payUsed d (s .nums) (s .names) q who) (omega arith)

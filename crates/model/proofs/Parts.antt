@@ -4,7 +4,7 @@
 use mathlib.Core.Path.{_≡_, refl, sym, ap, _∙_, subst}
 use mathlib.Core.Bool.{Bool, true, false, _&&_, cond}
 use mathlib.Core.List.{List, [], _∷_, _++_}
-use Prim.Native.Nat.{ℕ, zero, suc, _+_, _*_, _-_, _≤_, _<_}
+use Prim.Native.Nat.{ℕ, zero, suc, _+_, _-_, _≤_, _<_}
 use native.Mathlib.Nat.{add-zero}
 use native.Mathlib.Omega.{arith}
 use lib.Dec.{eqb, leb}
@@ -62,6 +62,9 @@ counted e h = record { m = h .m; is = e ∙ h .is; high = h .high }
 
 pub count-nat : {n : ℕ} {z : ℤ} → Count n z → nat z ≤ n
 count-nat h = rw (h .is, nat-pos (h .m)) (h .high)
+
+pub count-is : {n : ℕ} {z : ℤ} → Count n z → z ≡ pos (nat z)
+count-is h = h .is ∙ ap pos (sym (ap nat (h .is) ∙ nat-pos (h .m)))
 
 -- the count rises by i where its bound rises by n
 pub count-up : (t : Bool) {z : ℤ} {m : ℕ} (i n : ℕ) → i ≤ n → Count m z → Count (addIf t n m) (cond t (z +ℤ pos i) z)
@@ -144,14 +147,6 @@ orders-by-le c (o ∷ os) (suc m) = go (eqb c (o .customer)) (orders-by-le c os 
     go true h = omega arith
     go false h = omega arith
 
--- on hand, and how often 91 were put back
-pub record Hand (h₀ lots : ℕ) (z : ℤ) : Type 0 where
-  pub left : ℕ
-  pub times : ℕ
-  pub is : z ≡ pos left
-  pub sum : left + lots ≡ h₀ + 91 * times
-  pub high : left ≤ 9999
-
 -- ── the parts ──
 -- section s is as it was
 abbrev pub Kept : Dims → ℕ → List ℤ → List ℤ → Type 0
@@ -183,8 +178,8 @@ pub record CustomerPart (D : Dims) (b₀ : List ℤ) (charge handed paid : ℕ �
 pub record ItemPart (D : Dims) (b₀ : List ℤ) (b : List ℤ) : Type 0 where
   pub prices : (i : ℕ) → R (D .items) i → get (shapes D) b (price i) ≡ get (shapes D) b₀ (price i)
 
-pub record StockPart (D : Dims) (b₀ : List ℤ) (lots : ℕ → ℕ → ℕ) (b : List ℤ) : Type 0 where
-  pub hand : (w i : ℕ) → R (D .warehouses) w → R (D .items) i → Hand (num (shapes D) b₀ (onHand w i)) (lots w i) (get (shapes D) b (onHand w i))
+pub record StockPart (D : Dims) (lots : ℕ → ℕ → ℕ) (b : List ℤ) : Type 0 where
+  pub hand : (w i : ℕ) → R (D .warehouses) w → R (D .items) i → Count 9999 (get (shapes D) b (onHand w i))
   pub ytd : (w i : ℕ) → R (D .warehouses) w → R (D .items) i → get (shapes D) b (stockYtd w i) ≡ pos (lots w i)
   pub orders-to : (w i : ℕ) → R (D .warehouses) w → R (D .items) i → Count (lots w i) (get (shapes D) b (orderCnt w i))
   pub remotes-to : (w i : ℕ) → R (D .warehouses) w → R (D .items) i → Count (lots w i) (get (shapes D) b (remoteCnt w i))
@@ -206,7 +201,7 @@ pub record Agrees (D : Dims) (b₀ : List ℤ) (t : Tally) (b : List ℤ) : Type
   pub district : DistrictPart D b₀ (t .district) (t .orders) b
   pub customer : CustomerPart D b₀ (charged t) (handedTo t) (t .paid) (t .payments) b
   pub item : ItemPart D b₀ b
-  pub stock : StockPart D b₀ (t .lots) b
+  pub stock : StockPart D (t .lots) b
   pub order : OrderPart D (t .orders) (t .delivered) b
   pub history : HistoryPart D (t .payments) b
 
@@ -269,9 +264,9 @@ module _ (D : Dims) (b b′ : List ℤ) where
   pub item-same : (b₀ : List ℤ) → Kept D 4 b b′ → ItemPart D b₀ b → ItemPart D b₀ b′
   item-same b₀ e p = record { prices = λ i r. e i 1 1 0 (v4 D r 0 (omega arith)) ∙ p .prices i r }
 
-  pub stock-same : (b₀ : List ℤ) (f : ℕ → ℕ → ℕ) → Kept D 5 b b′ → StockPart D b₀ f b → StockPart D b₀ f b′
-  stock-same b₀ f e p = record {
-    hand = λ w i r s. rw (e w i 1 0 (v5 D r s 0 (omega arith))) (p .hand w i r s);
+  pub stock-same : (f : ℕ → ℕ → ℕ) → Kept D 5 b b′ → StockPart D f b → StockPart D f b′
+  stock-same f e p = record {
+    hand = λ w i r s. counted (e w i 1 0 (v5 D r s 0 (omega arith))) (p .hand w i r s);
     ytd = λ w i r s. e w i 1 1 (v5 D r s 1 (omega arith)) ∙ p .ytd w i r s;
     orders-to = λ w i r s. counted (e w i 1 2 (v5 D r s 2 (omega arith))) (p .orders-to w i r s);
     remotes-to = λ w i r s. counted (e w i 1 3 (v5 D r s 3 (omega arith))) (p .remotes-to w i r s);

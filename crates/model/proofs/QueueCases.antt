@@ -21,7 +21,8 @@ use Rattle.model.specs.Names.{namePlace, lastName, firstName, nameOk, pa
 use Rattle.model.specs.Used.{warehouseUsed, districtUsed, customerUsed, itemUsed, stockUsed, orderUsed, customersUsed, namesUsed, ordersUsed, whoUsed, lineUsed}
 use Rattle.model.specs.LastOrder.{lastLong, lastOk, foundOk}
 use Rattle.model.specs.Answer.{Answer, committed}
-use Rattle.model.specs.NewOrder.{newAsked, priceOf, orderable, newUsed, newOrderFault, restock, newOrderCommit, orderTotal, newOrderTotal, newOrderAnswer, newOrderBook, newOrderNoted, newOrderLast}
+use Rattle.model.specs.TopUp.{marginOf, liftOf, rowTests, rowOk, topupOk, lifts, restock}
+use Rattle.model.specs.NewOrder.{newAsked, priceOf, orderable, newUsed, newOrderFault, lineLifts, newOrderCommit, orderTotal, newOrderTotal, newOrderAnswer, newOrderBook, newOrderNoted, newOrderLast}
 use Rattle.model.specs.Note.{notePlace, textAt, notesLong, noteOf, moved, replaced}
 use Rattle.model.specs.Payment.{payAsked, payUsed, paymentFault, payer, paymentCommit, paidBalance, paymentAnswer, paymentBook, isBad, noteCommit, paymentNotes}
 use Rattle.model.specs.Delivery.{deliveryAsked, deliverable, deliveryUsed, deliveryFault, waits, oldest, lineAmounts, deliverOrder, deliverDistrict, deliverTo, deliveryCommit, oldestTen, deliveryAnswer, deliveryOrders, deliveryBook}
@@ -34,7 +35,7 @@ use Rattle.model.specs.RequestLine.{isName, isWho, whoRead, linesRead, r
 use Rattle.model.specs.AnswerLine.{answerLine, noFormLine, printedFor, leftAfter}
 use Rattle.model.specs.Tally.{Done}
 use Rattle.model.specs.Events.{Event, call, queue, run, Yard, afterEvent, afterEvents, standAs, doneEvents, Run, runs, queued, taken}
-use Rattle.model.proofs.Listing.{bytes, programBook, programNames, programLast, programNotes}
+use Rattle.model.proofs.Listing.{bytes, programBook, programNames, programLast, programNotes, programTopup}
 use Rattle.model.proofs.Readings.{prints, left, Prints, refusedBy}
 
 -- a request: its date of queuing, depot and carrier
@@ -58,7 +59,7 @@ line s n = bytes s ++ (10 ∷ dots n)
 
 -- the program's book; with a history count above H; with district 1's tax out of range; with order 1 of districts 1 and 3 waiting
 abbrev lentAs : List ℤ → Lent
-lentAs b = lent b programNames programLast programNotes
+lentAs b = lent b programNames programLast programNotes programTopup
 
 abbrev headless : List ℤ
 headless = set programBook 5 (pos 9)
@@ -202,7 +203,7 @@ pub record QueueCases : Type 0 where
   pub shown-then : Prints (ends .lent) (prints "S 1 1 #2" "S 0 2 1000 1 100 3 1 1 10 1000 300" ∷ prints "S 1 3 #2" "S 0 2 1100 2 102 4 1 1 1 100 301" ∷ [])
 
 pub queue-cases : QueueCases
-unfolding allTo nat cell balanceOk numbers nameBytes inside place get remap op upTo sumOf lowest largest warehouseTests districtTests customerTests itemTests stockTests slot orderTests lineTests orderOk dims dimsTests sizeTests headOk namePlace lastName firstName nameOk padded compareNames named before namesakes found customerOf warehouseUsed districtUsed customerUsed itemUsed stockUsed orderUsed customersUsed namesUsed ordersUsed whoUsed lineUsed lastLong lastOk foundOk newAsked priceOf orderable newUsed newOrderFault restock newOrderCommit orderTotal newOrderTotal newOrderAnswer newOrderBook newOrderNoted newOrderLast payAsked payUsed paymentFault payer paymentCommit paidBalance paymentAnswer paymentBook isBad noteCommit paymentNotes notesLong notePlace textAt noteOf moved replaced deliveryAsked deliverable deliveryUsed deliveryFault waits oldest lineAmounts deliverOrder deliverDistrict deliverTo deliveryCommit oldestTen deliveryAnswer deliveryBook statusAsked statusUsed statusFault statusCustomer statusOrder orderShown linesPart statusAnswer statusPart windowFirst windowCount levelAsked windowUsed levelUsed stockLevelFault lineItems windowItems isLow lowItems stockLevelAnswer answerOf numsAfter lastAfter notesAfter deliveryOrders ones ordersOf shownPart decimal tabbed lineText answerLine noFormLine printedFor leftAfter isNumber valueOf isName isWho whoRead partedBy linesRead readNewOrder readPayment readDelivery readOrderStatus readStockLevel readFields readLine faultOf queueFault queueAnswer queueAfter runFault firstIn runRequest runQueue runAnswer runOrders runBook resultLine runBuffer afterEvent
+unfolding allTo nat cell balanceOk numbers nameBytes inside place get remap op upTo sumOf lowest largest warehouseTests districtTests customerTests itemTests stockTests slot orderTests lineTests orderOk dims dimsTests sizeTests headOk namePlace lastName firstName nameOk padded compareNames named before namesakes found customerOf warehouseUsed districtUsed customerUsed itemUsed stockUsed orderUsed customersUsed namesUsed ordersUsed whoUsed lineUsed lastLong lastOk foundOk newAsked priceOf orderable newUsed newOrderFault marginOf liftOf rowTests rowOk topupOk lifts restock lineLifts newOrderCommit orderTotal newOrderTotal newOrderAnswer newOrderBook newOrderNoted newOrderLast payAsked payUsed paymentFault payer paymentCommit paidBalance paymentAnswer paymentBook isBad noteCommit paymentNotes notesLong notePlace textAt noteOf moved replaced deliveryAsked deliverable deliveryUsed deliveryFault waits oldest lineAmounts deliverOrder deliverDistrict deliverTo deliveryCommit oldestTen deliveryAnswer deliveryBook statusAsked statusUsed statusFault statusCustomer statusOrder orderShown linesPart statusAnswer statusPart windowFirst windowCount levelAsked windowUsed levelUsed stockLevelFault lineItems windowItems isLow lowItems stockLevelAnswer answerOf numsAfter lastAfter notesAfter deliveryOrders ones ordersOf shownPart decimal tabbed lineText answerLine noFormLine printedFor leftAfter isNumber valueOf isName isWho whoRead partedBy linesRead readNewOrder readPayment readDelivery readOrderStatus readStockLevel readFields readLine faultOf queueFault queueAnswer queueAfter runFault firstIn runRequest runQueue runAnswer runOrders runBook resultLine runBuffer afterEvent
 queue-cases = record {
   first-queued = (refl, refl);
   last-queued = (refl, refl);

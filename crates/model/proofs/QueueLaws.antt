@@ -125,7 +125,7 @@ stands y (run date buffer) = go (takes (y .queue) buffer)
     done n = record { request = delivery (runRequest (y .queue) date); number = n } ∷ []
 
     go : (t : Bool)
-        → (lent (cond t (deliveryBook b names (runRequest (y .queue) date)) b) names (y .lent .last) (y .lent .notes) ≡ afterAll (y .lent) (cond t (delivery (runRequest (y .queue) date) ∷ []) []))
+        → (lent (cond t (deliveryBook b names (runRequest (y .queue) date)) b) names (y .lent .last) (y .lent .notes) (y .lent .topup) ≡ afterAll (y .lent) (cond t (delivery (runRequest (y .queue) date) ∷ []) []))
         × (cond t (done (numberOf (cond t (deliveryAnswer b names (runRequest (y .queue) date)) (refused (runFault (y .queue) buffer))))) []
         ≡ doneAll (y .lent) (cond t (delivery (runRequest (y .queue) date) ∷ []) []))
     go true = (refl, ap done (number-by (deliveryFault b names (runRequest (y .queue) date)) (deliveryFigures (dims b) b (runRequest (y .queue) date))))

@@ -24,8 +24,9 @@ use Rattle.model.specs.Names.{Who, byNumber, byName, namePlace, lastName
 use Rattle.model.specs.Used.{warehouseUsed, districtUsed, customerUsed, itemUsed, stockUsed, orderUsed, customersUsed, namesUsed, ordersUsed, whoUsed, lineUsed}
 use Rattle.model.specs.LastOrder.{lastLong, lastOk, foundOk}
 use Rattle.model.specs.Answer.{Answer, committed, refused}
+use Rattle.model.specs.TopUp.{marginOf, liftOf, rowTests, rowOk, topupOk, lifts, restock}
 use Rattle.model.specs.Opening.{newWarehouse, newDistrict, newCustomer, newStock, districtNew, warehouseNew, bookNew, openingFault, openingAnswer}
-use Rattle.model.specs.NewOrder.{newAsked, priceOf, orderable, newUsed, newOrderFault, restock, newOrderCommit, orderTotal, newOrderTotal, newOrderAnswer, newOrderBook, newOrderNoted, newOrderLast}
+use Rattle.model.specs.NewOrder.{newAsked, priceOf, orderable, newUsed, newOrderFault, lineLifts, newOrderCommit, orderTotal, newOrderTotal, newOrderAnswer, newOrderBook, newOrderNoted, newOrderLast}
 use Rattle.model.specs.Note.{noteBytes, notePlace, textAt, notesLong, noteOf, moved, replaced}
 use Rattle.model.specs.Payment.{payAsked, payUsed, paymentFault, payer, paymentCommit, paidBalance, paymentAnswer, paymentBook, isBad, noteCommit, paymentNotes}
 use Rattle.model.specs.Delivery.{deliveryAsked, deliverable, deliveryUsed, deliveryFault, waits, oldest, lineAmounts, deliverOrder, deliverDistrict, deliverTo, deliveryCommit, oldestTen, deliveryAnswer, deliveryOrders, deliveryBook}
@@ -61,8 +62,15 @@ noneOrdered b = replicate (10 * dims b .warehouses * dims b .customers) (pos 0)
 abbrev pub unwritten : List ℤ → List ℕ
 unwritten b = replicate (noteBytes (dims b)) 32
 
+-- and the table 10, 91 for each item
+abbrev pub asEver : List ℤ → List ℤ
+asEver b = times (dims b .items) (pos 10 ∷ pos 91 ∷ [])
+
 abbrev pub fresh : List ℤ → List ℕ → Lent
-fresh b names = lent b names (noneOrdered b) (unwritten b)
+fresh b names = lent b names (noneOrdered b) (unwritten b) (asEver b)
+
+abbrev pub openWith : List ℤ → List ℕ → Answer
+openWith b names = openingAnswer b names (asEver b)
 
 -- what the lines leave
 abbrev pub left : Lent → List Case → Lent
@@ -219,7 +227,7 @@ pub record Figures : Type 0 where
       ≡ committed (pos 9 ∷ pos 1022 ∷ [])
   -- "Distinct items on orders numbered from next − 20 (or 1) to next − 1, whose on hand at this depot is below the threshold, counted.":
   -- next 22, so items 2, 3 and 4. "taking the last order by date (clocks go back; the number decides)"
-  pub window : Prints (lent windowBook (alms 10) (pos 21 ∷ replicate 9 (pos 0)) (unwritten windowBook)) (
+  pub window : Prints (lent windowBook (alms 10) (pos 21 ∷ replicate 9 (pos 0)) (unwritten windowBook) (asEver windowBook)) (
       prints "L 1 1 10" "L 0 2"
       ∷ prints "L 1 1 11" "L 0 3"
       ∷ prints "S 1 1 #1" "S 0 1 0 21 30 0 4 1 1 100 0"
@@ -228,9 +236,9 @@ pub record Figures : Type 0 where
 -- "Refused, in checking order": where a line offends twice, the first of the two numbers is answered
 pub record Refusals : Type 0 where
   -- 2 before 3. "every moving field .. is 0 and every next order number 1"
-  pub opening : openingAnswer [] [] ∷ openingAnswer (smallOf 1 2 10000 1) (alms 10) ∷ openingAnswer (smallOf 1 0 0 1) (drop 1 (alms 10))
-      ∷ openingAnswer (smallOf 1 0 10000 1) (alms 10) ∷ openingAnswer (smallOf 1 1 0 1) (alms 10) ∷ openingAnswer (smallOf 1 0 0 2) (alms 10)
-      ∷ openingAnswer (smallOf 1 0 9999 1) (alms 10) ∷ []
+  pub opening : openingAnswer [] [] [] ∷ openWith (smallOf 1 2 10000 1) (alms 10) ∷ openWith (smallOf 1 0 0 1) (drop 1 (alms 10))
+      ∷ openWith (smallOf 1 0 10000 1) (alms 10) ∷ openWith (smallOf 1 1 0 1) (alms 10) ∷ openWith (smallOf 1 0 0 2) (alms 10)
+      ∷ openWith (smallOf 1 0 9999 1) (alms 10) ∷ []
       ≡ refusedBy 2 0 ∷ refusedBy 2 0 ∷ refusedBy 2 0 ∷ refusedBy 3 0 ∷ refusedBy 3 0 ∷ refusedBy 3 0 ∷ committed [] ∷ []
   -- 2 before 4
   pub head : Refuses (fresh headless everyone) (
@@ -260,7 +268,7 @@ pub record Refusals : Type 0 where
   pub new-order-full : Refuses (fresh full everyone) (prints "N 2 1 1 1 4 1 1" "N 11 0" ∷ [])
   pub new-order-last : Refuses (fresh (bookOf 0 0 2) everyone) (prints "N 2 1 1 1 4 1 1" "N 12 1" ∷ [])
   -- "line count (1 to 15)"; "otherwise 0 (also where the line count itself offends)"
-  pub line-count : map (newOrderAnswer opened everyone (noneOrdered opened) (record { warehouse = 1; district = 1; customer = 1; date = 1 }))
+  pub line-count : map (newOrderAnswer opened everyone (noneOrdered opened) (asEver opened) (record { warehouse = 1; district = 1; customer = 1; date = 1 }))
       ([] ∷ replicate 16 (record { item = 1; supply = 1; quantity = 0 }) ∷ replicate 15 (record { item = 1; supply = 1; quantity = 0 }) ∷ [])
       ≡ refusedBy 8 0 ∷ refusedBy 8 0 ∷ refusedBy 8 1 ∷ []
   -- 4 before 5 before 6 before 7 before 8 before 10
@@ -401,7 +409,7 @@ pub record Readings : Type 0 where
   pub limits : Limits
 
 pub readings : Readings
-unfolding allTo nat cell balanceOk numbers nameBytes inside place get remap op upTo sumOf lowest largest warehouseTests districtTests customerTests itemTests stockTests slot orderTests lineTests orderOk dims dimsTests sizeTests headOk namePlace lastName firstName nameOk padded compareNames named before namesakes found customerOf warehouseUsed districtUsed customerUsed itemUsed stockUsed orderUsed customersUsed namesUsed ordersUsed whoUsed lineUsed lastLong lastOk foundOk newAsked priceOf orderable newUsed newOrderFault restock newOrderCommit orderTotal newOrderTotal newOrderAnswer newOrderBook newOrderNoted newOrderLast payAsked payUsed paymentFault payer paymentCommit paidBalance paymentAnswer paymentBook isBad noteCommit paymentNotes notesLong notePlace textAt noteOf moved replaced deliveryAsked deliverable deliveryUsed deliveryFault waits oldest lineAmounts deliverOrder deliverDistrict deliverTo deliveryCommit oldestTen deliveryAnswer deliveryBook statusAsked statusUsed statusFault statusCustomer statusOrder orderShown linesPart statusAnswer statusPart statusLines windowFirst windowCount levelAsked windowUsed levelUsed stockLevelFault lineItems windowItems isLow lowItems stockLevelAnswer answerOf numsAfter lastAfter notesAfter deliveryOrders ones ordersOf shownPart decimal tabbed lineText answerLine noFormLine printedFor leftAfter isNumber valueOf isName isWho whoRead partedBy linesRead readNewOrder readPayment readDelivery readOrderStatus readStockLevel readFields readLine newWarehouse newDistrict newCustomer newStock districtNew warehouseNew bookNew openingFault openingAnswer hasForm fieldsOf lineOf writeFault writeAnswer writeBuffer
+unfolding allTo nat cell balanceOk numbers nameBytes inside place get remap op upTo sumOf lowest largest warehouseTests districtTests customerTests itemTests stockTests slot orderTests lineTests orderOk dims dimsTests sizeTests headOk namePlace lastName firstName nameOk padded compareNames named before namesakes found customerOf warehouseUsed districtUsed customerUsed itemUsed stockUsed orderUsed customersUsed namesUsed ordersUsed whoUsed lineUsed lastLong lastOk foundOk newAsked priceOf orderable newUsed newOrderFault marginOf liftOf rowTests rowOk topupOk lifts restock lineLifts newOrderCommit orderTotal newOrderTotal newOrderAnswer newOrderBook newOrderNoted newOrderLast payAsked payUsed paymentFault payer paymentCommit paidBalance paymentAnswer paymentBook isBad noteCommit paymentNotes notesLong notePlace textAt noteOf moved replaced deliveryAsked deliverable deliveryUsed deliveryFault waits oldest lineAmounts deliverOrder deliverDistrict deliverTo deliveryCommit oldestTen deliveryAnswer deliveryBook statusAsked statusUsed statusFault statusCustomer statusOrder orderShown linesPart statusAnswer statusPart statusLines windowFirst windowCount levelAsked windowUsed levelUsed stockLevelFault lineItems windowItems isLow lowItems stockLevelAnswer answerOf numsAfter lastAfter notesAfter deliveryOrders ones ordersOf shownPart decimal tabbed lineText answerLine noFormLine printedFor leftAfter isNumber valueOf isName isWho whoRead partedBy linesRead readNewOrder readPayment readDelivery readOrderStatus readStockLevel readFields readLine newWarehouse newDistrict newCustomer newStock districtNew warehouseNew bookNew openingFault openingAnswer hasForm fieldsOf lineOf writeFault writeAnswer writeBuffer
 readings = record {
   figures = record { fraction = refl; once = refl; found-by-name = refl; printed = refl; rows = refl; mark = refl; window = refl };
   refusals = record { opening = refl; head = (refl, refl); new-order = (refl, refl); new-order-rows = (refl, refl); new-order-full = (refl, refl); new-order-last = (refl, refl); line-count = refl; payment = (refl, refl); payment-rows = (refl, refl); payment-home = refl; delivery = (refl, refl); order-status = (refl, refl); stock-level = (refl, refl); no-name = refl; no-name-row = refl };

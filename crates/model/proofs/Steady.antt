@@ -1,7 +1,7 @@
 -- What no call changes, from any book: its length, the head's five sizes and every customer's credit.
 -- Assumes nothing.
 use mathlib.Core.Path.{_≡_, refl, ap, _∙_}
-use mathlib.Core.Bool.{Bool, true, false, cond}
+use mathlib.Core.Bool.{Bool, true, false, cond, true≢false}
 use mathlib.Core.List.{List, [], _∷_}
 use Prim.Native.Nat.{ℕ, zero, suc, _-_, _≤_}
 use native.Mathlib.Omega.{arith}
@@ -17,7 +17,7 @@ use Rattle.model.specs.declared.Payment.{Payment}
 use Rattle.model.specs.Numbers.{nat}
 use Rattle.model.specs.Layout.{shapes, total, Addr, at}
 use Rattle.model.specs.Store.{get, num, rowOf, Op, run}
-use Rattle.model.specs.Rows.{historyCount, nextOrder, customerRow, orderRow, orderCustomer, lineCount}
+use Rattle.model.specs.Rows.{historyCount, nextOrder, customerRow, onHand, orderRow, orderCustomer, lineCount}
 use Rattle.model.specs.Lists.{sumOf}
 use Rattle.model.specs.Head.{dims}
 use Rattle.model.specs.Names.{Who}
@@ -28,7 +28,7 @@ use Rattle.model.specs.Request.{Request, newOrder, payment, delivery, or
 use Rattle.model.specs.Claim.{R}
 use Rattle.model.proofs.Places.{Valid, rowSame}
 use Rattle.model.proofs.Frame.{Fine, seen, get-run, length-run}
-use Rattle.model.proofs.Fields.{v0, v2, v3, v6, slot-in}
+use Rattle.model.proofs.Fields.{v0, v2, v3, v5, v6, slot-in}
 use Rattle.model.proofs.RowFacts.{AllIn, book-long}
 use Rattle.model.proofs.PaymentFacts.{pay-ready, pay-ready-fine}
 use Rattle.model.proofs.NewOrderFacts.{LineReady, new-ready, lines-ready, line-fine, new-ready-fine}
@@ -73,17 +73,18 @@ module _ (d : Dims) (b : List ℤ) (long : length b ≡ total (shapes d)) where
       look a v = get-run (shapes d) os b₁ a (s .len ∙ long) fine v
 
   -- the lines of a New-Order, in turn
-  lines-steady : (w : ℕ) (ls : List Line) → AllIn (LineReady d b) ls → (b₁ : List ℤ) → Steady d b b₁ → Steady d b (takeLines d w ls b₁)
-  lines-steady w [] f b₁ s = s
-  lines-steady w (l ∷ ls) f b₁ s =
-      lines-steady w ls (f .1) (run (shapes d) (lineOps w l) b₁)
-      (steady-run b₁ (lineOps w l) (line-fine d w l (f .0 .asked .supply) (f .0 .used .item)) (λ v. (refl, (refl, (refl, (refl, (refl, λ x y z. refl)))))) s)
+  lines-steady : (topup : List ℤ) (w : ℕ) (ls : List Line) → AllIn (LineReady d b) ls → (b₁ : List ℤ) → Steady d b b₁ → Steady d b (takeLines d topup w ls b₁)
+  lines-steady topup w [] f b₁ s = s
+  lines-steady topup w (l ∷ ls) f b₁ s =
+      lines-steady topup w ls (f .1) (run (shapes d) (lineOps topup w l) b₁)
+      (steady-run b₁ (lineOps topup w l) (line-fine d topup w l (f .0 .asked .supply) (f .0 .used .item)) (λ v. (refl, (refl, (refl, (refl, (refl, λ x y z. refl)))))) s)
 
 -- ── Delivery: the next order numbers and the orders' customers stay too, so that each district finds an order and a customer of the book ──
 record Handing (d : Dims) (b b′ : List ℤ) : Type 0 where
   pub steady : Steady d b b′
   pub next : (w k : ℕ) → R (d .warehouses) w → R 10 k → get (shapes d) b′ (nextOrder w k) ≡ get (shapes d) b (nextOrder w k)
   pub buyer : (w k o : ℕ) → R (d .warehouses) w → R 10 k → R (d .orders) o → get (shapes d) b′ (orderCustomer d w k o) ≡ get (shapes d) b (orderCustomer d w k o)
+  pub hand : (w i : ℕ) → R (d .warehouses) w → R (d .items) i → get (shapes d) b′ (onHand w i) ≡ get (shapes d) b (onHand w i)
 
 cond-same : (x : Bool) (v : ℤ) → cond x v v ≡ v
 cond-same true v = refl
@@ -100,6 +101,7 @@ module _ (d : Dims) (b : List ℤ) (n : ℕ) (q : Delivery) (r : DeliveryReady d
         look (orderCustomer d w j p) (v6 d x y (slot-in d z) 0 (omega arith))
         ∙ cond-same (rowSame (orderCustomer d w j p) (orderRow d (q .warehouse) k o)) _
         ∙ h .buyer w j p x y z;
+    hand = λ w i x y. look (onHand w i) (v5 d x y 0 (omega arith)) ∙ h .hand w i x y;
   }
     where
       ops : List Op
@@ -149,25 +151,60 @@ pay-steady b names notes q who = if-done b (paymentCommit (dims b) b q (payer (d
     let ops = payOps (num (shapes (dims b)) b historyCount) q (payer (dims b) names q who) in
     steady-run (dims b) b (book-long (r .shaped)) b ops (pay-ready-fine (dims b) b names notes q who r) (λ v. (refl, (refl, (refl, (refl, (refl, λ x y z. refl)))))) (steady-same b))
 
-new-steady : (b : List ℤ) (names : List ℕ) (last : List ℤ) (q : NewOrder) (ls : List Line) → Steady (dims b) b (newOrderBook b names last q ls)
+new-steady : (b : List ℤ) (names : List ℕ) (last topup : List ℤ) (q : NewOrder) (ls : List Line) → Steady (dims b) b (newOrderBook b names last topup q ls)
 unfolding newOrderBook newOrderCommit
-new-steady b names last q ls = if-done b (newOrderCommit (dims b) b q ls) (eqb (newOrderFault b names last q ls .number) 0) (λ e.
-    let r = new-ready b names last q ls (eqb-true _ _ e) in
-    let lines = lines-steady (dims b) b (book-long (r .shaped)) (q .warehouse) ls (lines-ready (dims b) b (length names) q ls r) b (steady-same b) in
+new-steady b names last topup q ls = if-done b (newOrderCommit (dims b) b topup q ls) (eqb (newOrderFault b names last topup q ls .number) 0) (λ e.
+    let r = new-ready b names last topup q ls (eqb-true _ _ e) in
+    let lines = lines-steady (dims b) b (book-long (r .shaped)) topup (q .warehouse) ls (lines-ready (dims b) b (length names) q ls r) b (steady-same b) in
     let ops = joinOps (dims b) (priceOf (dims b) b) (num (shapes (dims b)) b (nextOrder (q .warehouse) (q .district))) q ls in
-    steady-run (dims b) b (book-long (r .shaped)) (takeLines (dims b) (q .warehouse) ls b) ops (new-ready-fine (dims b) b (length names) (priceOf (dims b) b) q ls r)
+    steady-run (dims b) b (book-long (r .shaped)) (takeLines (dims b) topup (q .warehouse) ls b) ops (new-ready-fine (dims b) b (length names) (priceOf (dims b) b) q ls r)
     (λ v. (refl, (refl, (refl, (refl, (refl, λ x y z. refl)))))) lines)
 
-deliver-steady : (b : List ℤ) (names : List ℕ) (q : Delivery) → Steady (dims b) b (deliveryBook b names q)
+delivered-kept : (b : List ℤ) (names : List ℕ) (q : Delivery) → Handing (dims b) b (deliveryBook b names q)
 unfolding deliveryBook deliveryCommit
-deliver-steady b names q = if-done b (deliveryCommit (dims b) b q) (eqb (deliveryFault b names q .number) 0) (λ e.
-    districts-kept (dims b) b (length names) q (delivery-ready b names q (eqb-true _ _ e)) 10 (omega arith)
-    (record { steady = steady-same b; next = λ w k x y. refl; buyer = λ w k o x y z. refl }) .steady)
+delivered-kept b names q = go (eqb (deliveryFault b names q .number) 0) refl
+  where
+    same : Handing (dims b) b b
+    same = record { steady = steady-same b; next = λ w k x y. refl; buyer = λ w k o x y z. refl; hand = λ w i x y. refl }
+
+    go : (x : Bool) → eqb (deliveryFault b names q .number) 0 ≡ x → Handing (dims b) b (cond x (deliverTo (dims b) q 10 b) b)
+    go false e = same
+    go true e = districts-kept (dims b) b (length names) q (delivery-ready b names q (eqb-true _ _ e)) 10 (omega arith) same
 
 pub steady-call : (s : Lent) (r : Request) → Steady (dims (s .nums)) (s .nums) (numsAfter s r)
 unfolding numsAfter
-steady-call s (newOrder q ls) = new-steady (s .nums) (s .names) (s .last) q ls
+steady-call s (newOrder q ls) = new-steady (s .nums) (s .names) (s .last) (s .topup) q ls
 steady-call s (payment q who) = pay-steady (s .nums) (s .names) (s .notes) q who
-steady-call s (delivery q) = deliver-steady (s .nums) (s .names) q
+steady-call s (delivery q) = delivered-kept (s .nums) (s .names) q .steady
 steady-call s (orderStatus q who) = steady-same (s .nums)
 steady-call s (stockLevel q) = steady-same (s .nums)
+
+-- ── on hand: New-Order alone writes it ──
+pay-hands : (b : List ℤ) (names notes : List ℕ) (q : Payment) (who : Who) (w i : ℕ) → R (dims b .warehouses) w → R (dims b .items) i
+    → get (shapes (dims b)) (paymentBook b names notes q who) (onHand w i) ≡ get (shapes (dims b)) b (onHand w i)
+unfolding paymentBook paymentCommit
+pay-hands b names notes q who w i x y = go (eqb (paymentFault b names notes q who .number) 0) refl
+  where
+    go : (t : Bool) → eqb (paymentFault b names notes q who .number) 0 ≡ t
+        → get (shapes (dims b)) (cond t (paymentCommit (dims b) b q (payer (dims b) names q who)) b) (onHand w i) ≡ get (shapes (dims b)) b (onHand w i)
+    go false e = refl
+    go true e =
+        let r = pay-ready b names notes q who (eqb-true _ _ e) in
+        get-run (shapes (dims b)) (payOps (num (shapes (dims b)) b historyCount) q (payer (dims b) names q who)) b (onHand w i) (book-long (r .shaped))
+        (pay-ready-fine (dims b) b names notes q who r) (v5 (dims b) x y 0 (omega arith))
+
+abbrev pub ordering : Request → Bool
+ordering (newOrder q ls) = true
+ordering (payment q who) = false
+ordering (delivery q) = false
+ordering (orderStatus q who) = false
+ordering (stockLevel q) = false
+
+pub hands-kept : (s : Lent) (r : Request) → ordering r ≡ false → (w i : ℕ) → R (dims (s .nums) .warehouses) w → R (dims (s .nums) .items) i
+    → get (shapes (dims (s .nums))) (numsAfter s r) (onHand w i) ≡ get (shapes (dims (s .nums))) (s .nums) (onHand w i)
+unfolding numsAfter
+hands-kept s (newOrder q ls) e w i x y = absurd (true≢false e)
+hands-kept s (payment q who) e w i x y = pay-hands (s .nums) (s .names) (s .notes) q who w i x y
+hands-kept s (delivery q) e w i x y = delivered-kept (s .nums) (s .names) q .hand w i x y
+hands-kept s (orderStatus q who) e w i x y = refl
+hands-kept s (stockLevel q) e w i x y = refl

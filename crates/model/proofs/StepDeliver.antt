@@ -256,7 +256,7 @@ module _ (D : Dims) (b₀ : List ℤ) (t : Tally) (b : List ℤ) (ag : Agrees D 
       deliveries-are = λ w k c r s u. hand-look (deliveryCnt w k c) (v3 D r s u 5 (omega arith)) ∙ counts w k c r s u (is2 (q .warehouse) k₀ w k) refl;
     };
     item = item-same D b b′ b₀ (λ x y z k v. hand-look (at 4 x y z k) v) (ag .item);
-    stock = stock-same D b b′ b₀ (t .lots) (λ x y z k v. hand-look (at 5 x y z k) v) (ag .stock);
+    stock = stock-same D b b′ (t .lots) (λ x y z k v. hand-look (at 5 x y z k) v) (ag .stock);
     order = record {
       mle = λ w k. mles w k (is2 (q .warehouse) k₀ w k);
       nle = ag .order .nle;

@@ -159,7 +159,7 @@ module _ (D : Dims) (b₀ : List ℤ) (t : Tally) (b : List ℤ) (ag : Agrees D 
         (λ w k c. ap (ordersBy c) (take-is (is2 (q .warehouse) (q .district) w k) (t .orders w k) o (M t w k) (ag .order .mle w k)))
         (customer-same D b b′ b₀ (charged t) (handedTo t) (t .paid) (t .payments) (λ x y z k v. join-look (at 3 x y z k) v) (ag .customer));
     item = item-same D b b′ b₀ (λ x y z k v. join-look (at 4 x y z k) v) (ag .item);
-    stock = stock-same D b b′ b₀ (t .lots) (λ x y z k v. join-look (at 5 x y z k) v) (ag .stock);
+    stock = stock-same D b b′ (t .lots) (λ x y z k v. join-look (at 5 x y z k) v) (ag .stock);
     order = record {
       mle = λ w k. longer (is2 (q .warehouse) (q .district) w k) (t .orders w k) o (M t w k) (ag .order .mle w k);
       nle = λ w k. shorter w k (is2 (q .warehouse) (q .district) w k) refl;

@@ -94,7 +94,7 @@ module _ (D : Dims) (b₀ : List ℤ) (t : Tally) (b : List ℤ) (ag : Agrees D 
           deliveries-are = λ w k x r s u. look (deliveryCnt w k x) (v3 D r s u 5 (omega arith)) ∙ ag .customer .deliveries-are w k x r s u;
         };
         item = item-same D b b′ b₀ (λ x y z k v. look (at 4 x y z k) v) (ag .item);
-        stock = stock-same D b b′ b₀ (t .lots) (λ x y z k v. look (at 5 x y z k) v) (ag .stock);
+        stock = stock-same D b b′ (t .lots) (λ x y z k v. look (at 5 x y z k) v) (ag .stock);
         order = order-same D b b′ (t .orders) (t .delivered) (λ x y z k v. look (at 6 x y z k) v) (ag .order);
         history = record {
           rows = λ j hj k hk.

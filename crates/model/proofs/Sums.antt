@@ -75,3 +75,11 @@ sum-rise (suc n) k a f g r h e = go (ℕ-discrete k (suc n)) (λ q. sum-rise n k
         let s = rec (record { lo = r .lo; hi = omega (arith, r .hi) }) in
         let e′ = h (suc n) (λ (x : suc n ≡ k). q (sym x)) in
         omega (arith, sum-last n g, sum-last n f)
+
+pub sum-both : (n : ℕ) (f g : ℕ → ℕ) → sumUp n (λ j. f j + g j) ≡ sumUp n f + sumUp n g
+sum-both zero f g = omega (arith, sum-none f, sum-none g, sum-none (λ j. f j + g j))
+sum-both (suc n) f g = omega (arith, sum-last n f, sum-last n g, sum-last n (λ j. f j + g j), sum-both n f g)
+
+-- one summand alone
+pub sum-alone : (n k a : ℕ) (f : ℕ → ℕ) → R n k → ((j : ℕ) → ¬ (j ≡ k) → f j ≡ 0) → f k ≡ a → sumUp n f ≡ a
+sum-alone n k a f r h e = omega (arith, sum-rise n k a (λ j. 0) f r h (omega (arith, e)), sum-zero n (λ j. 0) (λ j u. refl))

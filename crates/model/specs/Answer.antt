@@ -40,7 +40,7 @@ openingSays OpeningCase.Accepted = committed []
 openingSays (OpeningCase.Refused r) = refused r
 
 abbrev pub newOrderSays : NewOrderOutcome → Answer
-newOrderSays (NewOrderCase.Committed f) = committed (pos (f .order) ∷ pos (f .total) ∷ [])
+newOrderSays (NewOrderCase.Committed f) = committed (pos (f .order) ∷ pos (f .total) ∷ pos (f .lifts) ∷ [])
 newOrderSays (NewOrderCase.Refused r) = refused r
 
 abbrev pub paymentSays : PaymentOutcome → Answer

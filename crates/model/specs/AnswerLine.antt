@@ -11,9 +11,9 @@ use Rattle.model.specs.Text.{positives, textOf}
 use Rattle.model.specs.RequestLine.{letter, Reading, read, noForm, refused1}
 
 -- "order and total (N), skip count and ten orders (D), customer and balance (P), customer, balance, order, date, carrier and five fields a line (S),
--- count (L)": from the figures, Delivery's ten numbers and the lines that a status shows
+-- count (L)": from the figures, Delivery's ten numbers and the lines that a status shows. R-6: New-Order's lifts are "unprinted"
 abbrev pub printed : Request → List ℤ → List ℕ → List ℤ → List ℤ
-printed (newOrder q lines) figures orders shown = figures
+printed (newOrder q lines) figures orders shown = take 2 figures
 printed (payment q who) figures orders shown = figures
 printed (delivery q) figures orders shown = take 1 figures ++ positives orders
 printed (orderStatus q who) figures orders shown = figures ++ shown

@@ -15,7 +15,8 @@ use Rattle.model.specs.Rows.{historyCount, warehouseYtd, districtYtd, ne
 use Rattle.model.specs.Head.{dims}
 use Rattle.model.specs.Lists.{largest}
 use Rattle.model.specs.LastOrder.{lastAt}
-use Rattle.model.specs.Opening.{openingFault}
+use Rattle.model.specs.TopUp.{liftOf}
+use Rattle.model.specs.Opening.{Accepted}
 use Rattle.model.specs.Request.{Request, Lent}
 use Rattle.model.specs.Tally.{Tally, Done, Paid, N, M, charged, afterAll, doneAll, tallied}
 
@@ -34,19 +35,19 @@ pub record HistoryIs (d : Dims) (b : List ℤ) (h : ℕ) (p : Paid) : Type 0 whe
   pub date : get (shapes d) b (historyCol h 5) ≡ pos (p .request .date)
   pub amount : get (shapes d) b (historyCol h 6) ≡ pos (p .request .amount)
 
--- "on hand and (opening − lots to date) differ by a multiple of 91": hand = opening − lots + 91 · times
-pub record Restocked (opening lots : ℕ) (hand : ℤ) : Type 0 where
+-- "on hand and (opening − lots to date) differ by a multiple of" the item's lift, which replaces 91: hand = opening − lots + lift · times
+pub record Restocked (lift opening lots : ℕ) (hand : ℤ) : Type 0 where
   pub left : ℕ
   pub times : ℕ
   pub is : hand ≡ pos left
-  pub sum : left + lots ≡ opening + 91 * times
+  pub sum : left + lots ≡ opening + lift * times
 
 -- no payment at all: stands where a list is too short
 abbrev pub noPaid : Paid
 noPaid = record { request = record { warehouse = 0; district = 0; custwarehouse = 0; custdistrict = 0; date = 0; amount = 0 }; customer = 0 }
 
--- b₀ is the opening book, t the tally of the list, b the book after it
-pub record Claim (d : Dims) (b₀ : List ℤ) (t : Tally) (b : List ℤ) : Type 0 where
+-- what no top-up table decides; t is the tally of the list, b the book after it
+pub record Books (d : Dims) (t : Tally) (b : List ℤ) : Type 0 where
   -- "to-date money of depots and districts equals the tally"
   pub warehouse-money : (w : ℕ) → R (d .warehouses) w → get (shapes d) b (warehouseYtd w) ≡ pos (t .warehouse w)
   pub district-money : (w k : ℕ) → R (d .warehouses) w → R 10 k → get (shapes d) b (districtYtd w k) ≡ pos (t .district w k)
@@ -67,8 +68,14 @@ pub record Claim (d : Dims) (b₀ : List ℤ) (t : Tally) (b : List ℤ) : Type 
   -- "the history count is the number of committed payments"
   pub history-count : get (shapes d) b historyCount ≡ pos (length (t .payments))
   pub history-rows : (h : ℕ) → R (length (t .payments)) h → HistoryIs d b h (getD (t .payments) (h - 1) noPaid)
+  -- on hand is in range
+  pub hands : (w i : ℕ) → R (d .warehouses) w → R (d .items) i → num (shapes d) b (onHand w i) ≤ 9999
+
+-- b₀ is the opening book, topup the one table through the list: "which replace 10 and 91, in the tally and demand 3 too while the table is unchanged"
+pub record Claim (d : Dims) (b₀ topup : List ℤ) (t : Tally) (b : List ℤ) : Type 0 where
+  pub books : Books d t b
   pub on-hand : (w i : ℕ) → R (d .warehouses) w → R (d .items) i
-      → Restocked (num (shapes d) b₀ (onHand w i)) (t .lots w i) (get (shapes d) b (onHand w i))
+      → Restocked (liftOf topup i) (num (shapes d) b₀ (onHand w i)) (t .lots w i) (get (shapes d) b (onHand w i))
 
 -- "Numbers 2, 3 and 9 below are never answered by the calls of such a list."
 abbrev pub Never : List Done → Type 0
@@ -78,8 +85,8 @@ Never (x ∷ xs) = (x .number ≢ 2) × ((x .number ≢ 3) × ((x .number ≢ 9)
 -- "Take any list of the five calls .., refused ones included, from a book that opening has just accepted.", whatever is lent beside it
 abbrev pub Demand : Type 0
 Demand =
-    (s : Lent) → openingFault (s .nums) (s .names) .number ≡ 0 → (rs : List Request)
-    → Claim (dims (s .nums)) (s .nums) (tallied s rs) (afterAll s rs .nums) × Never (doneAll s rs)
+    (s : Lent) → Accepted (s .nums) (s .names) → (rs : List Request)
+    → Claim (dims (s .nums)) (s .nums) (s .topup) (tallied s rs) (afterAll s rs .nums) × Never (doneAll s rs)
 
 -- ── R-1 ──
 -- "the one the scan would find": of the orders before next the largest number of one that is the customer's, 0 where none is
@@ -88,7 +95,7 @@ lastOrder d b w k c = largest (λ o. eqb (num (shapes d) b (orderCustomer d w k 
 
 -- "from an opened book with this slice all 0"
 pub record Started (s : Lent) : Type 0 where
-  pub accepted : openingFault (s .nums) (s .names) .number ≡ 0
+  pub accepted : Accepted (s .nums) (s .names)
   pub zeros : s .last ≡ replicate (10 * dims (s .nums) .warehouses * dims (s .nums) .customers) (pos 0)
 
 -- "For every list of calls .., each number is the one the scan would find."; the slice keeps its length

@@ -31,14 +31,14 @@ use Rattle.model.specs.OrderStatus.{statusAnswer, statusPart, statusLine
 use Rattle.model.specs.StockLevel.{stockLevelAnswer}
 
 -- "Opening writes nothing."
-pub record OpeningCall (b : List ℤ) (names : List ℕ) (r : OpeningAnswer) : Type 0 where
-  pub says : openingSays (r .outcome) ≡ openingAnswer b names
+pub record OpeningCall (b : List ℤ) (names : List ℕ) (topup : List ℤ) (r : OpeningAnswer) : Type 0 where
+  pub says : openingSays (r .outcome) ≡ openingAnswer b names topup
 
 -- left: the numbers as the call leaves them; noted: the last orders
-pub record NewOrderCall (b : List ℤ) (names : List ℕ) (last : List ℤ) (q : NewOrder) (lines : List Line) (r : NewOrderAnswer) (left noted : List ℤ) : Type 0 where
-  pub says : newOrderSays (r .outcome) ≡ newOrderAnswer b names last q lines
-  pub leaves : left ≡ newOrderBook b names last q lines
-  pub notes : noted ≡ newOrderLast b names last q lines
+pub record NewOrderCall (b : List ℤ) (names : List ℕ) (last topup : List ℤ) (q : NewOrder) (lines : List Line) (r : NewOrderAnswer) (left noted : List ℤ) : Type 0 where
+  pub says : newOrderSays (r .outcome) ≡ newOrderAnswer b names last topup q lines
+  pub leaves : left ≡ newOrderBook b names last topup q lines
+  pub notes : noted ≡ newOrderLast b names last topup q lines
 
 -- written: the texts as the call leaves them
 pub record PaymentCall (b : List ℤ) (names notes : List ℕ) (q : Payment) (who : Who) (r : PaymentAnswer) (left : List ℤ) (written : List ℕ) : Type 0 where

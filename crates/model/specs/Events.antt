@@ -31,7 +31,7 @@ unfoldable pub afterEvent : Yard → Event → Yard
 afterEvent y (call r) = record { lent = after (y .lent) r; queue = y .queue }
 afterEvent y (queue x) = record { lent = y .lent; queue = queueAfter (y .queue) x }
 afterEvent y (run date buffer) = record {
-  lent = lent (runBook (y .lent .nums) (y .lent .names) (y .queue) date buffer) (y .lent .names) (y .lent .last) (y .lent .notes);
+  lent = lent (runBook (y .lent .nums) (y .lent .names) (y .queue) date buffer) (y .lent .names) (y .lent .last) (y .lent .notes) (y .lent .topup);
   queue = runQueue (y .queue) buffer;
 }
 

@@ -10,6 +10,7 @@ pub mod Names
 pub mod Lists
 pub mod Used
 pub mod LastOrder
+pub mod TopUp
 pub mod Answer
 pub mod Opening
 pub mod NewOrder
@@ -28,4 +29,5 @@ pub mod Events
 pub mod Claim
 pub mod NoteClaim
 pub mod QueueClaim
+pub mod TopUpClaim
 pub mod Contracts

@@ -1,20 +1,22 @@
 -- Opening, which writes nothing.
 -- Assumes nothing.
+use mathlib.Core.Path.{_≡_}
 use mathlib.Core.Bool.{Bool}
-use mathlib.Core.List.{List, [], _∷_}
+use mathlib.Core.List.{List, [], _∷_, _++_}
 use Prim.Native.Nat.{ℕ}
 use lib.Dec.{leb, eqb}
 use lib.IntN.{ℤ}
 use lib.ListN.{length}
 use Rattle.model.specs.declared.Dims.{Dims}
 use Rattle.model.specs.declared.Refusal.{Refusal}
-use Rattle.model.specs.Tests.{every, allTo, chk, fault}
+use Rattle.model.specs.Tests.{every, allTo, Check, chk, fault}
 use Rattle.model.specs.Numbers.{nat, maxRate}
 use Rattle.model.specs.Layout.{shapes}
 use Rattle.model.specs.Store.{num, rowOf}
 use Rattle.model.specs.Head.{dims, headOk}
 use Rattle.model.specs.Rows.{historyCount, warehouseRow, districtRow, customerRow, stockRow}
 use Rattle.model.specs.Used.{itemUsed, namesUsed}
+use Rattle.model.specs.TopUp.{topupOk}
 use Rattle.model.specs.Answer.{Answer, answerBy}
 
 -- "It accepts when every master field, on hand and name is in range and every moving field (money to date, balance, every count with that of
@@ -59,8 +61,16 @@ bookNew d b names =
     ∷ [])
 
 -- 3: "At opening alone, the book fails the opening rule."
-unfoldable pub openingFault : List ℤ → List ℕ → Refusal
-openingFault b names = fault (chk (headOk b (length names)) 2 ∷ chk (bookNew (dims b) b names) 3 ∷ [])
+abbrev pub bookTests : List ℤ → List ℕ → List Check
+bookTests b names = chk (headOk b (length names)) 2 ∷ chk (bookNew (dims b) b names) 3 ∷ []
 
-unfoldable pub openingAnswer : List ℤ → List ℕ → Answer
-openingAnswer b names = answerBy (openingFault b names) []
+-- "a book that opening has just accepted", whatever table is lent beside it
+unfoldable pub Accepted : List ℤ → List ℕ → Type 0
+Accepted b names = fault (bookTests b names) .number ≡ 0
+
+-- R-6: 17 "at opening after 3"
+unfoldable pub openingFault : List ℤ → List ℕ → List ℤ → Refusal
+openingFault b names topup = fault (bookTests b names ++ (chk (topupOk (dims b) topup) 17 ∷ []))
+
+unfoldable pub openingAnswer : List ℤ → List ℕ → List ℤ → Answer
+openingAnswer b names topup = answerBy (openingFault b names topup) []

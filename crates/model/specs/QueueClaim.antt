@@ -15,7 +15,7 @@ use Rattle.model.specs.Numbers.{maxDate}
 use Rattle.model.specs.Text.{decimal, signed}
 use Rattle.model.specs.Head.{dims}
 use Rattle.model.specs.Answer.{Answer, committed, refused}
-use Rattle.model.specs.Opening.{openingFault}
+use Rattle.model.specs.Opening.{Accepted}
 use Rattle.model.specs.Delivery.{deliveryAnswer, deliveryOrders}
 use Rattle.model.specs.Queue.{free, queueFault, queueAfter, firstIn, runQueue, runBook, resultLine, runBuffer}
 use Rattle.model.specs.Request.{lent, delivery, answerOf, ordersOf, after}
@@ -63,7 +63,7 @@ pub record Serves (x : Waiting) (r : Run) : Type 0 where
 
 -- stands where a list of runs is too short
 abbrev pub noRun : Run
-noRun = record { date = 0; before = lent [] [] [] []; after = lent [] [] [] []; answer = committed []; orders = []; lent = []; left = [] }
+noRun = record { date = 0; before = lent [] [] [] [] []; after = lent [] [] [] [] []; answer = committed []; orders = []; lent = []; left = [] }
 
 -- a request queued behind j others, after the runs rs that left q: run number j + 1 is its own; until then it waits, behind j less the runs so far
 pub record InTurn (j : ℕ) (x : Waiting) (rs : List Run) (q : Queue) : Type 0 where
@@ -121,8 +121,8 @@ RunsStand =
 -- demand 3, from a book that opening has just accepted and any waiting list
 abbrev pub DemandWithRuns : Type 0
 DemandWithRuns =
-    (y : Yard) → openingFault (y .lent .nums) (y .lent .names) .number ≡ 0 → (es : List Event)
-    → Claim (dims (y .lent .nums)) (y .lent .nums) (tally (openedOf (y .lent .nums) (y .lent .names)) (doneEvents y es) start) (afterEvents y es .lent .nums)
+    (y : Yard) → Accepted (y .lent .nums) (y .lent .names) → (es : List Event)
+    → Claim (dims (y .lent .nums)) (y .lent .nums) (y .lent .topup) (tally (openedOf (y .lent .nums) (y .lent .names)) (doneEvents y es) start) (afterEvents y es .lent .nums)
     × Never (doneEvents y es)
 
 -- why 400 bytes: no result line is longer, whatever the record holds

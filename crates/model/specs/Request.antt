@@ -63,20 +63,22 @@ pub record Lent : Type 0 where
   pub last : List ℤ
   -- R-4: the text of each customer
   pub notes : List ℕ
+  -- R-6: margin and lift of each item, lent to be read only
+  pub topup : List ℤ
 
-abbrev pub lent : List ℤ → List ℕ → List ℤ → List ℕ → Lent
-lent b names last notes = record { nums = b; names = names; last = last; notes = notes }
+abbrev pub lent : List ℤ → List ℕ → List ℤ → List ℕ → List ℤ → Lent
+lent b names last notes topup = record { nums = b; names = names; last = last; notes = notes; topup = topup }
 
 -- the first refusal that fits a request on what is lent; number 0 where it is committed
 unfoldable pub faultOf : Lent → Request → Refusal
-faultOf s (newOrder q lines) = newOrderFault (s .nums) (s .names) (s .last) q lines
+faultOf s (newOrder q lines) = newOrderFault (s .nums) (s .names) (s .last) (s .topup) q lines
 faultOf s (payment q who) = paymentFault (s .nums) (s .names) (s .notes) q who
 faultOf s (delivery q) = deliveryFault (s .nums) (s .names) q
 faultOf s (orderStatus q who) = statusFault (s .nums) (s .names) (s .last) q who
 faultOf s (stockLevel q) = stockLevelFault (s .nums) (s .names) q
 
 unfoldable pub answerOf : Lent → Request → Answer
-answerOf s (newOrder q lines) = newOrderAnswer (s .nums) (s .names) (s .last) q lines
+answerOf s (newOrder q lines) = newOrderAnswer (s .nums) (s .names) (s .last) (s .topup) q lines
 answerOf s (payment q who) = paymentAnswer (s .nums) (s .names) (s .notes) q who
 answerOf s (delivery q) = deliveryAnswer (s .nums) (s .names) q
 answerOf s (orderStatus q who) = statusAnswer (s .nums) (s .names) (s .last) q who
@@ -103,7 +105,7 @@ shownOf s r = partOf (shownPart s r) (s .nums)
 
 -- the book's numbers as a call leaves them
 unfoldable pub numsAfter : Lent → Request → List ℤ
-numsAfter s (newOrder q lines) = newOrderBook (s .nums) (s .names) (s .last) q lines
+numsAfter s (newOrder q lines) = newOrderBook (s .nums) (s .names) (s .last) (s .topup) q lines
 numsAfter s (payment q who) = paymentBook (s .nums) (s .names) (s .notes) q who
 numsAfter s (delivery q) = deliveryBook (s .nums) (s .names) q
 numsAfter s (orderStatus q who) = s .nums
@@ -111,7 +113,7 @@ numsAfter s (stockLevel q) = s .nums
 
 -- R-1: "New-Order maintains it and alone writes it"
 unfoldable pub lastAfter : Lent → Request → List ℤ
-lastAfter s (newOrder q lines) = newOrderLast (s .nums) (s .names) (s .last) q lines
+lastAfter s (newOrder q lines) = newOrderLast (s .nums) (s .names) (s .last) (s .topup) q lines
 lastAfter s (payment q who) = s .last
 lastAfter s (delivery q) = s .last
 lastAfter s (orderStatus q who) = s .last
@@ -125,6 +127,6 @@ notesAfter s (delivery q) = s .notes
 notesAfter s (orderStatus q who) = s .notes
 notesAfter s (stockLevel q) = s .notes
 
--- all that is lent as a call leaves it; the names are only read
+-- all that is lent as a call leaves it; names and table are only read
 abbrev pub after : Lent → Request → Lent
-after s r = record { nums = numsAfter s r; names = s .names; last = lastAfter s r; notes = notesAfter s r }
+after s r = record { nums = numsAfter s r; names = s .names; last = lastAfter s r; notes = notesAfter s r; topup = s .topup }

@@ -103,9 +103,11 @@ pub struct OpeningAnswer {
     pub outcome: OpeningOutcome,
 }
 
+// R-6: `lifts` is how many of the order's lines lifted their stock.
 pub struct NewOrderFigures {
     pub order: u64,
     pub total: u64,
+    pub lifts: u64,
 }
 
 pub enum NewOrderOutcome {

@@ -201,14 +201,17 @@ fn turned_away(refusal: Refusal) -> OpeningAnswer
 }
 
 // Opening, which writes nothing.
-pub fn opening(b: &[i64], names: &[u8]) -> OpeningAnswer
-    ensures { λ r. ⌜ OpeningCall (now (b .entry)) (now (names .entry)) r ⌝ }
+pub fn opening(b: &[i64], names: &[u8], topup: &[i64]) -> OpeningAnswer
+    ensures { λ r. ⌜ OpeningCall (now (b .entry)) (now (names .entry)) (now (topup .entry)) r ⌝ }
 {
     let Head::Book(d) = layout::head_of(b, names) else {
         return turned_away(cells::refused(2));
     };
     if !book_new(b, names, d) {
         return turned_away(cells::refused(3));
+    }
+    if !topup::table_ok(topup, d) {
+        return turned_away(cells::refused(17));
     }
     let outcome = OpeningOutcome::Accepted;
     OpeningAnswer { outcome }

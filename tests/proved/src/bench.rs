@@ -191,6 +191,7 @@ fn book(orders: usize) -> Lent {
         last: last_orders(orders),
         notes: vec![b' '; 5_000 * W * C],
         buffer: vec![0; 400],
+        topup: [10, 91].repeat(I),
         ..Lent::default()
     }
 }

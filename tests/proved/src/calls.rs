@@ -8,7 +8,15 @@ use second::{
 };
 
 extern "C" {
-    fn book_opening(nums: *const i64, nums_len: usize, names: *const u8, names_len: usize, out: *mut u64);
+    fn book_opening(
+        nums: *const i64,
+        nums_len: usize,
+        names: *const u8,
+        names_len: usize,
+        topup: *const i64,
+        topup_len: usize,
+        out: *mut u64,
+    );
     fn book_new_order(
         nums: *mut i64,
         nums_len: usize,
@@ -16,6 +24,8 @@ extern "C" {
         names_len: usize,
         last: *mut i64,
         last_len: usize,
+        topup: *const i64,
+        topup_len: usize,
         warehouse: u64,
         district: u64,
         customer: u64,
@@ -148,19 +158,21 @@ pub fn status_out(lent: &Lent, request: &OrderStatus) -> ([u64; 8], i64) {
 
 impl Engine for ProvedEngine {
     fn open(&mut self, lent: &Lent) -> Outcome<()> {
-        let mut out = [0; 2];
-        on_book!(book_opening, lent.nums.as_ptr(), lent, out.as_mut_ptr());
+        let mut out = [77; 2];
+        on_book!(book_opening, lent.nums.as_ptr(), lent, lent.topup.as_ptr(), lent.topup.len(), out.as_mut_ptr());
         outcome(&out, ())
     }
 
     fn new_order(&mut self, lent: &mut Lent, request: &NewOrder) -> Outcome<NewOrderFigures> {
-        let mut out = [0; 4];
+        let mut out = [77; 5];
         on_book!(
             book_new_order,
             lent.nums.as_mut_ptr(),
             lent,
             lent.last.as_mut_ptr(),
             lent.last.len(),
+            lent.topup.as_ptr(),
+            lent.topup.len(),
             request.warehouse,
             request.district,
             request.customer,
@@ -169,7 +181,7 @@ impl Engine for ProvedEngine {
             request.lines.len(),
             out.as_mut_ptr(),
         );
-        outcome(&out, NewOrderFigures { order: out[2], total: out[3] })
+        outcome(&out, NewOrderFigures { order: out[2], total: out[3], lifts: out[4] })
     }
 
     fn payment(&mut self, lent: &mut Lent, request: &Payment) -> Outcome<PaymentFigures> {

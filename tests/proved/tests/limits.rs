@@ -1,4 +1,5 @@
-//! Both engines at the upper end of each dimension of the head, and one above it, on books that opening accepts but for that.
+//! Both engines at the upper end of each dimension of the head, and one above it, on books that opening accepts but for that; and every row of a
+//! top-up table.
 //!
 //! The ends, the lengths and the answers are written out here from document 01; all other dimensions are 1.
 
@@ -47,6 +48,39 @@ fn notes_up_to_300_000_000_bytes() {
     let end = &lent.notes[300_000_000 - 1_000..];
     let note = "3000 10 20 10 20 500;";
     assert_eq!(String::from_utf8_lossy(end), format!("{:500}{:500}", "", note.repeat(2)));
+}
+
+/// Both engines judge every row of the longest table, of 200,000 numbers, and of every short one: a row that is wrong in one rule is refused by 17
+/// wherever it is, one at an end of the rules is not. The order is for the last item.
+#[test]
+fn every_row_of_a_table() {
+    let wrong = [[-1, 91], [9_991, 10], [10, 9], [0, 10_000], [5_000, 5_001], [i64::MAX, i64::MAX], [i64::MIN, i64::MIN]];
+    let right = [[0, 10], [1, 9_999], [9_990, 10], [5_000, 5_000]];
+    let longest = [1, 2, 3, 4, 5, 6, 7, 8, 9, 49_999, 50_000, 50_001, 99_993, 99_994, 99_995, 99_996, 99_997, 99_998, 99_999, 100_000];
+    let short = (1..=24).flat_map(|items| (1..=items).map(move |item| (items, item)));
+    for (items, item) in short.chain(longest.map(|item| (100_000, item))) {
+        let head = [1, 1, items, 1, 1];
+        let mut lent = book(head);
+        for row in wrong {
+            lent.topup[2 * item - 2..2 * item].copy_from_slice(&row);
+            judged(head, &lent, "OPEN 17 0", "N 17 0");
+        }
+        if item < items {
+            let row = right[item % right.len()];
+            lent.topup[2 * item - 2..2 * item].copy_from_slice(&row);
+            judged(head, &lent, "OPEN 0", "N 0 1 750 0");
+        }
+    }
+}
+
+/// What both engines answer to opening and to New-Order.
+fn judged(head: Head, lent: &Lent, opened: &str, ordered: &str) {
+    let [order, ..] = requests(head);
+    let engines: [&mut dyn Engine; 2] = [&mut ProvedEngine, &mut SecondEngine];
+    for (engine, name) in engines.into_iter().zip(["the proved library", "the second engine"]) {
+        assert_eq!(print::open(engine.open(lent)), opened, "{name}, {:?}", lent.topup);
+    }
+    same(lent, ordered, |engine, lent| print::call(engine, lent, &order));
 }
 
 /// Both engines write the longest line of a committed run: order 10,000 of every district, queued on the latest date that a record can hold.
@@ -126,7 +160,7 @@ fn same(lent: &Lent, said: &str, call: impl Fn(&mut dyn Engine, &mut Lent) -> St
 }
 
 /// Committed at the limit; refused by 2 where a length is one off, and above the limit; New-Order and Order-Status by 13 where that of the last
-/// orders is, Payment by 14 where that of the notes is.
+/// orders is, Payment by 14 where that of the notes is, opening and New-Order by 17 where that of the top-up table is, by a number or a row.
 fn both_sides(limit: Head, above: Head) {
     committed(limit, &book(limit));
     for last in [-1, 1] {
@@ -134,6 +168,9 @@ fn both_sides(limit: Head, above: Head) {
     }
     for notes in [-1, 1] {
         refused_by_14(limit, &off_notes(book(limit), notes));
+    }
+    for topup in [-2, -1, 1, 2] {
+        refused_by_17(limit, &off_topup(book(limit), topup));
     }
     for numbers in [-1, 1] {
         refused(limit, &off(book(limit), numbers, 0));
@@ -149,7 +186,7 @@ fn committed(head: Head, lent: &Lent) {
     let [w, c, i, ..] = head;
     let said = [
         "OPEN 0".to_string(),
-        "N 0 1 750".to_string(),
+        "N 0 1 750 0".to_string(),
         format!("P 0 {c} -500"),
         "D 0 9 511 0 0 0 0 0 0 0 0 0 1".to_string(),
         format!("S 0 {c} 250 1 100 3 {i} {w} 3 750 200"),
@@ -185,7 +222,7 @@ fn refused_by_14(head: Head, lent: &Lent) {
     let [w, c, i, ..] = head;
     let said = [
         "OPEN 0".to_string(),
-        "N 0 1 750".to_string(),
+        "N 0 1 750 0".to_string(),
         "P 14 0".to_string(),
         "D 0 9 511 0 0 0 0 0 0 0 0 0 1".to_string(),
         format!("S 0 {c} 750 1 100 3 {i} {w} 3 750 200"),
@@ -195,6 +232,24 @@ fn refused_by_14(head: Head, lent: &Lent) {
     assert_eq!(answers(&mut ProvedEngine, &mut proved, head), said, "the proved library, {head:?}, {}", lent.notes.len());
     assert_eq!(answers(&mut SecondEngine, &mut second, head), said, "the second engine, {head:?}, {}", lent.notes.len());
     assert!(proved == second && proved.notes == lent.notes, "{head:?}: the books differ");
+}
+
+/// Opening and New-Order are refused by 17, the other calls are not.
+fn refused_by_17(head: Head, lent: &Lent) {
+    let c = head[1];
+    let said = [
+        "OPEN 17 0".to_string(),
+        "N 17 0".to_string(),
+        format!("P 0 {c} -500"),
+        "D 0 10 1023 0 0 0 0 0 0 0 0 0 0".to_string(),
+        format!("S 0 {c} -500 0 0 0"),
+        "L 0 0".to_string(),
+    ];
+    let (mut proved, mut second) = (lent.clone(), lent.clone());
+    let length = lent.topup.len();
+    assert_eq!(answers(&mut ProvedEngine, &mut proved, head), said, "the proved library, {head:?}, {length}");
+    assert_eq!(answers(&mut SecondEngine, &mut second, head), said, "the second engine, {head:?}, {length}");
+    assert!(proved == second && proved.topup == lent.topup, "{head:?}: the books differ");
 }
 
 /// Opening and one call of each kind, on the last warehouse, district, customer and item.
@@ -245,6 +300,7 @@ fn book(head: Head) -> Lent {
         names: vec![b'A'; 32 * 10 * w * c],
         last: vec![0; 10 * w * c],
         notes: vec![b' '; 5_000 * w * c],
+        topup: [10, 91].repeat(i),
         ..Lent::default()
     }
 }
@@ -252,6 +308,12 @@ fn book(head: Head) -> Lent {
 /// The book with that many more last orders.
 fn off_last(mut lent: Lent, numbers: isize) -> Lent {
     lent.last.resize(lent.last.len().wrapping_add_signed(numbers), 0);
+    lent
+}
+
+/// The book with that many more numbers in its top-up table.
+fn off_topup(mut lent: Lent, numbers: isize) -> Lent {
+    lent.topup.resize(lent.topup.len().wrapping_add_signed(numbers), 10);
     lent
 }
 

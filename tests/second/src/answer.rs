@@ -38,10 +38,12 @@ impl<F> From<Result<F, Refusal>> for Outcome<F> {
     }
 }
 
+/// `lifts` is how many of the order's lines were topped up.
 #[derive(Debug, Clone, Copy, PartialEq, Eq)]
 pub struct NewOrderFigures {
     pub order: u64,
     pub total: u64,
+    pub lifts: u64,
 }
 
 #[derive(Debug, Clone, Copy, PartialEq, Eq)]

@@ -24,6 +24,8 @@ pub struct Book {
     pub last: Vec<i64>,
     /// The text of each customer.
     pub notes: Vec<u8>,
+    /// Margin and lift of each item.
+    pub topup: Vec<i64>,
 }
 
 impl Book {
@@ -53,6 +55,7 @@ impl Book {
             names,
             last: vec![0; LAYOUT.last_orders()],
             notes: vec![b' '; LAYOUT.note_bytes()],
+            topup: LAYOUT.usual_topup(),
         }
     }
 
@@ -69,7 +72,8 @@ impl Book {
     fn carry_out(&mut self, request: &Request) -> String {
         let (nums, names, last) = (&mut self.nums, &self.names, &mut self.last);
         match request {
-            Request::NewOrder(r) => match crate::new_order(nums, names, last, r) {
+            // The lifts are not printed.
+            Request::NewOrder(r) => match crate::new_order(nums, names, last, &self.topup, r) {
                 Outcome::Committed(f) => format!("N\t0\t{}\t{}", f.order, f.total),
                 Outcome::Refused(refusal) => refused('N', refusal),
             },

@@ -108,6 +108,12 @@ pub fn last_orders(
     demand(rows::all_up_to(numbers, most), 13)
 }
 
+/// Check 17: the length of the top-up table, then every row of it.
+pub fn topup(topup: &[i64], layout: &Layout) -> Result<(), Refusal> {
+    let fits = topup.len() == layout.topup_numbers();
+    demand(fits && rows::topup_in_range(topup), 17)
+}
+
 /// The next order number of a district whose row is in range.
 pub fn next_order(nums: &[i64], layout: &Layout, (warehouse, district): (usize, usize)) -> usize {
     nums[layout.district(warehouse, district)][district::NEXT_ORDER] as usize

@@ -64,6 +64,15 @@ pub mod history {
     pub const WIDTH: usize = 7;
 }
 
+/// An item's row in the lent top-up table.
+pub mod topup {
+    pub const MARGIN: usize = 0;
+    pub const LIFT: usize = 1;
+    pub const WIDTH: usize = 2;
+    /// Document 01's margin and lift.
+    pub const USUAL: [i64; WIDTH] = [10, 91];
+}
+
 /// Bytes of one customer's names: last name, then first name.
 pub const NAMES_WIDTH: usize = 2 * ranges::NAME_BYTES;
 
@@ -132,6 +141,16 @@ impl Layout {
     /// How many bytes the notes have: a text for each customer.
     pub fn note_bytes(&self) -> usize {
         self.warehouses * DISTRICTS * self.customers * TEXT_WIDTH
+    }
+
+    /// How many numbers the top-up table has: a margin and a lift for each item.
+    pub fn topup_numbers(&self) -> usize {
+        self.items * topup::WIDTH
+    }
+
+    /// A top-up table with document 01's 10 and 91 for each item.
+    pub fn usual_topup(&self) -> Vec<i64> {
+        topup::USUAL.repeat(self.items)
     }
 
     fn warehouse_start(&self) -> usize {
@@ -220,6 +239,11 @@ impl Layout {
     pub fn text(&self, warehouse: usize, district: usize, customer: usize) -> Range<usize> {
         let before = self.customers_before(warehouse, district, customer);
         row(0, before, TEXT_WIDTH)
+    }
+
+    /// An item's margin and lift, in the lent top-up table.
+    pub fn topup(&self, item: usize) -> Range<usize> {
+        row(0, item - 1, topup::WIDTH)
     }
 
     /// The place of an item's price.

@@ -9,7 +9,8 @@
 //! New-Order writes it, Order-Status reads it, no other call takes it. Another, the
 //! notes, has a text of 500 bytes for each customer: Payment alone takes and writes it.
 //! Deliveries may wait their turn in a record, which a call that queues and a call that
-//! runs the oldest change, the latter with a lent buffer for its result line.
+//! runs the oldest change, the latter with a lent buffer for its result line. The top-up table
+//! has a margin and a lift for each item: opening and New-Order read it, nobody writes it.
 
 pub mod answer;
 pub mod book_program;

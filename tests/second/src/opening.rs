@@ -6,14 +6,15 @@ use crate::layout::{customer, district, stock, warehouse, Layout, NAMES_WIDTH};
 use crate::ranges::{self, within};
 use crate::rows;
 
-/// Opens a book: checks 2 and 3. The order and history slots may hold anything.
-pub fn open(nums: &[i64], names: &[u8]) -> Outcome<()> {
-    judge(nums, names).into()
+/// Opens a book: checks 2, 3 and 17. The order and history slots may hold anything.
+pub fn open(nums: &[i64], names: &[u8], topup: &[i64]) -> Outcome<()> {
+    judge(nums, names, topup).into()
 }
 
-fn judge(nums: &[i64], names: &[u8]) -> Result<(), Refusal> {
+fn judge(nums: &[i64], names: &[u8], topup: &[i64]) -> Result<(), Refusal> {
     let layout = checks::layout(nums, names)?;
-    demand(in_first_state(nums, names, &layout), 3)
+    demand(in_first_state(nums, names, &layout), 3)?;
+    checks::topup(topup, &layout)
 }
 
 fn in_first_state(nums: &[i64], names: &[u8], layout: &Layout) -> bool {

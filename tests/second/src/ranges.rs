@@ -33,6 +33,11 @@ pub const LINE_AMOUNT: Range = (1, 999_990);
 pub const PAYMENT_AMOUNT: Range = (100, 500_000);
 pub const THRESHOLD: Range = (10, 20);
 
+/// Of an item's row in the lent top-up table; the two together are at most the last.
+pub const MARGIN: Range = (0, 9_990);
+pub const LIFT: Range = (10, 9_999);
+pub const MARGIN_AND_LIFT: i64 = 10_000;
+
 /// Is a number of the book within the range?
 pub fn within(value: i64, (low, high): Range) -> bool {
     low <= value && value <= high

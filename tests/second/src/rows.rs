@@ -1,7 +1,7 @@
 //! Is a row in range? One function for each kind of row; a row is handed over as its numbers.
 
-use crate::layout::{customer, district, order, order_line, stock, warehouse, Layout};
-use crate::ranges::{self, within};
+use crate::layout::{customer, district, order, order_line, stock, topup, warehouse, Layout};
+use crate::ranges::{self, within, MARGIN_AND_LIFT};
 
 pub fn warehouse_in_range(row: &[i64]) -> bool {
     within(row[warehouse::TAX], ranges::RATE) && within(row[warehouse::YTD], ranges::MONEY_TO_DATE)
@@ -80,6 +80,21 @@ pub fn all_up_to(numbers: &[i64], most: i64) -> bool {
     let signs = numbers
         .iter()
         .fold(0, |signs, &n| signs | n | most.wrapping_sub(n));
+    signs >= 0
+}
+
+/// Are all these rows of a top-up table in range: each lift, and each margin from 0 to what the lift leaves of 10,000?
+///
+/// Beside a lift of 10 or more that is at most 9,990. The signs are gathered as above; of a lift outside its range one difference has a sign,
+/// also where the others wrap. A loop that leaves at the first bad row took a seventh longer.
+pub fn topup_in_range(rows: &[i64]) -> bool {
+    let (least, most) = ranges::LIFT;
+    let signs = rows.chunks_exact(topup::WIDTH).fold(0, |signs, row| {
+        let (margin, lift) = (row[topup::MARGIN], row[topup::LIFT]);
+        let room = MARGIN_AND_LIFT.wrapping_sub(lift);
+        let of_lift = lift.wrapping_sub(least) | most.wrapping_sub(lift);
+        signs | of_lift | margin | room.wrapping_sub(margin)
+    });
     signs >= 0
 }
 

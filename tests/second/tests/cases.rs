@@ -4,7 +4,7 @@ mod common;
 
 use common::*;
 use second::book_program::{self, Book};
-use second::new_order::{left_on_hand, total};
+use second::new_order::{left_on_hand, total, Left};
 use second::replay::{Engine, Lent, SecondEngine};
 use second::stock_level::window_start;
 use second::who::place;
@@ -29,10 +29,11 @@ L 0 1
 
 #[test]
 fn thirteen_cases() {
-    assert_eq!(left_on_hand(20, 10), 10);
-    assert_eq!(left_on_hand(10, 1), 100);
-    assert_eq!(left_on_hand(0, 10), 81);
-    assert_eq!(left_on_hand(9_999, 10), 9_989);
+    let left = |on_hand, lifted| Left { on_hand, lifted };
+    assert_eq!(left_on_hand(20, 10, 10, 91), left(10, false));
+    assert_eq!(left_on_hand(10, 1, 10, 91), left(100, true));
+    assert_eq!(left_on_hand(0, 10, 10, 91), left(81, true));
+    assert_eq!(left_on_hand(9_999, 10, 10, 91), left(9_989, false));
     assert_eq!(total(1_750, 1_000, 1_000, 500), 1_811);
     assert_eq!(total(100, 0, 1_000, 500), 115);
     assert_eq!(total(10, 0, 250, 250), 11);
@@ -66,9 +67,9 @@ fn listing_through_replay() {
     );
     let expected = [
         "OPEN 0",
-        "N 0 1 1811",
+        "N 0 1 1811 0",
         "N 12 2",
-        "N 0 2 115",
+        "N 0 2 115 1",
         "D 0 9 1022 1 0 0 0 0 0 0 0 0 0",
         "P 0 2 -500",
         "S 0 1 1750 1 100 3 1 1 10 1000 200 2 1 3 750 200",
@@ -103,6 +104,7 @@ fn book_after_the_listing() {
     assert_eq!(book.last[2..], [0; 18]);
     assert!(book.names == Book::built_in().names);
     assert_eq!(book.notes, [b' '; 10_000]); // all credit is good
+    assert_eq!(book.topup, [10, 91, 10, 91, 10, 91, 10, 91, 10, 91]);
 }
 
 #[test]
@@ -138,9 +140,9 @@ fn program_refuses_with_number_and_detail() {
 #[test]
 fn opening_writes_nothing_and_ignores_slots() {
     let mut lent = fresh();
-    assert_eq!(ends(open(&lent.nums, &lent.names)), (0, 0));
+    assert_eq!(ends(SecondEngine.open(&lent)), (0, 0));
     lent.nums[order(1, 1, 1)..].fill(i64::MIN);
-    assert_eq!(ends(open(&lent.nums, &lent.names)), (0, 0));
+    assert_eq!(ends(SecondEngine.open(&lent)), (0, 0));
 }
 
 #[test]
@@ -151,6 +153,7 @@ fn item_named_twice_is_taken_twice_in_turn() {
     let figures = NewOrderFigures {
         order: 1,
         total: 1_139, // 1,100 x 0.9 x 1.15 = 1,138.5
+        lifts: 1,
     };
     assert_eq!(outcome, Outcome::Committed(figures));
     assert_eq!(lent.nums[stock(1, 1)..stock(1, 2)], [100, 11, 2, 0]);

@@ -69,6 +69,7 @@ fn three_orders() -> Lent {
         names: format!("{:16}{:16}", "AB", "C").repeat(10).into_bytes(),
         last,
         notes: vec![b' '; 5_000],
+        topup: vec![10, 91],
         ..Lent::default()
     }
 }
@@ -385,7 +386,7 @@ const INTERLEAVED: [(&str, &str); 14] = [
     ("QD 1 4 101", "QD 0 1"),
     ("QD 1 9 0", "QD 7 0"),
     ("QD 5 5 102", "QD 0 2"),
-    ("N 1 2 1 60 1 1 1 1", "N 0 1 115"),
+    ("N 1 2 1 60 1 1 1 1", "N 0 1 115 0"),
     ("RD 201", "RD 16 0"),
     ("RD 201", "RD 0 8 1017 0 1 2 0 0 0 0 0 0 0"),
     ("QD 1 6 103", "QD 0 2"),

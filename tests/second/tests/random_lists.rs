@@ -4,6 +4,7 @@
 mod common;
 
 use common::ends;
+use second::checks;
 use second::layout::Layout;
 use second::lists::last::scanned;
 use second::lists::{self, stats};
@@ -16,7 +17,7 @@ use std::collections::{HashMap, VecDeque};
 use std::sync::LazyLock;
 
 /// How often lists reach each answer, counted once for all tests.
-static COUNTS: LazyLock<stats::Counts> = LazyLock::new(|| stats::count(11, 3_000));
+static COUNTS: LazyLock<stats::Counts> = LazyLock::new(|| stats::count(11, 3_600));
 
 /// Makes a call and gives its number; asserts that a refused one changes nothing.
 fn call(lent: &mut Lent, request: &Request) -> u64 {
@@ -81,9 +82,9 @@ fn every_answer_is_reached() {
             .filter(|((w, n, _), _)| w == word && *n == number);
         same.map(|(_, times)| times).sum()
     };
-    let answers: [(&str, &[u64]); 13] = [
-        ("OPEN", &[0, 2, 3]),
-        ("N", &[0, 2, 4, 5, 6, 7, 8, 9, 11, 12, 13]),
+    let answers: [(&str, &[u64]); 14] = [
+        ("OPEN", &[0, 2, 3, 17]),
+        ("N", &[0, 2, 4, 5, 6, 7, 8, 9, 11, 12, 13, 17]),
         ("P", &[0, 2, 4, 5, 6, 7, 8, 9, 10, 11, 14]),
         ("D", &[0, 2, 4, 7, 8, 9]),
         ("S", &[0, 2, 4, 5, 6, 9, 10, 13]),
@@ -95,11 +96,13 @@ fn every_answer_is_reached() {
         ("QD", &[0, 7, 15]),
         ("RD", &[0, 2, 4, 7, 8, 9, 16]),
         (">", &[0, 2, 4, 7, 8, 9, 15, 16]),
+        ("+", &[0, 2, 3, 4, 5, 6, 7, 8, 9, 13, 17]),
     ];
     for (word, numbers) in answers {
         for &number in numbers {
             let times = reached(word, number);
-            assert!(times >= 25, "{word} {number}: {times} times");
+            let least = if word == "+" { 1 } else { 25 };
+            assert!(times >= least, "{word} {number}: {times} times");
         }
     }
     let known = |(word, number, _): &(String, u64, String)| {
@@ -142,6 +145,7 @@ fn every_kind_is_reached() {
         ("N", 9, "and 13"),
         ("N", 13, "before 11"),
         ("N", 13, "before 12"),
+        ("N", 13, "before 17"),
         ("N", 0, "wrong elsewhere"),
         ("N", 0, "exactly half a cent"),
         ("N", 0, "one part below half a cent"),
@@ -274,6 +278,89 @@ fn every_kind_of_turn_is_reached() {
     }
 }
 
+const TABLES: [&str; 3] = [
+    "10 and 91 throughout",
+    "one row throughout",
+    "rows that differ",
+];
+
+/// How the lines of an order meet their margins.
+const MARGINS_MET: [&str; 14] = [
+    "no line lifted",
+    "some lines lifted",
+    "all lines lifted",
+    "a stock row twice",
+    "an item of two warehouses",
+    "other lifts than by the book as found",
+    "left at the margin",
+    "left one above",
+    "left one below",
+    "still below after the lift",
+    "margin 0",
+    "lift 10",
+    "together 9,999",
+    "together 10,000",
+];
+
+/// What is wrong with a table that 17 refuses.
+const WRONG_TABLES: [&str; 21] = [
+    "no table",
+    "a number short",
+    "a number long",
+    "a row short",
+    "a row long",
+    "double",
+    "another length",
+    "margin -1",
+    "margin negative",
+    "margin 9,991",
+    "lift negative",
+    "lift below 9",
+    "lift 9",
+    "lift 10,000",
+    "lift above 10,000",
+    "together 10,001",
+    "together above 10,001",
+    "the first row",
+    "a middle row",
+    "the last row",
+    "alone",
+];
+
+/// Orders by how their lines meet the margins and by the ends that their rows are at, and every way to meet 17, each with what stands beside it in
+/// checking order; openings likewise.
+#[test]
+fn every_kind_of_topup_is_reached() {
+    let mut kinds = Vec::new();
+    let mut add = |number: u64, call: &str, least: u64, these: &[&str]| {
+        let named = |kind| (number, format!("{call}, {kind}"), least);
+        kinds.extend(these.iter().map(named));
+    };
+    let ends = ["margin 9,989", "margin 9,990", "lift 9,998", "lift 9,999"];
+    let beside = ["a line's row", "no line's row", "before 11", "before 12"];
+    add(0, "opened", 100, &TABLES);
+    add(0, "ordered", 500, &TABLES);
+    add(0, "ordered", 250, &MARGINS_MET);
+    add(0, "ordered", 50, &ends);
+    add(17, "opened", 5, &WRONG_TABLES);
+    add(17, "ordered", 25, &WRONG_TABLES);
+    add(17, "ordered", 50, &beside);
+    for (call, number) in [
+        ("opened", 2),
+        ("opened", 3),
+        ("ordered", 2),
+        ("ordered", 9),
+        ("ordered", 13),
+    ] {
+        add(number, call, 25, &["and 17"]);
+    }
+    for (number, kind, least) in kinds {
+        let key = ("+".to_string(), number, kind);
+        let times = COUNTS.get(&key).copied().unwrap_or(0);
+        assert!(times >= least, "{key:?}: {times} times");
+    }
+}
+
 #[test]
 fn lists_are_the_same_for_the_same_seed() {
     assert_eq!(lists::list(3, 5), lists::list(3, 5));
@@ -284,7 +371,14 @@ fn lists_are_the_same_for_the_same_seed() {
         let mut lines = text.lines();
         assert!(lines.next().unwrap().starts_with("SLICE nums"));
         assert!(lines.next().unwrap().starts_with("BYTES names "));
-        for slice in ["SLICE last", "BYTES notes ", "BYTES buffer ", "QUEUE "] {
+        let beside = [
+            "SLICE last",
+            "SLICE topup",
+            "BYTES notes ",
+            "BYTES buffer ",
+            "QUEUE ",
+        ];
+        for slice in beside {
             let sets = text.lines().any(|line| line.starts_with(slice));
             assert_eq!(sets, number >= 60);
         }
@@ -299,19 +393,62 @@ struct Tally {
     opening: Lent,
     orders: HashMap<Place, Vec<(u64, i64)>>,
     delivered: HashMap<Place, usize>,
-    lots: HashMap<(u64, u64), i64>,
+    /// What was taken from each stock row, in turn.
+    taken: HashMap<(u64, u64), Vec<i64>>,
+    /// The lifts that orders answered.
+    lifts: u64,
+    /// The table of the opening where 17 lets it through, as long as no other is lent.
+    topup: Option<Vec<i64>>,
+    /// Whether the last orders were all 0 at opening and are as calls left them.
+    zeros: bool,
     history: Vec<[i64; 7]>,
 }
 
 impl Tally {
     fn of(opening: &Lent) -> Tally {
+        let layout = Layout::of(&opening.nums, &opening.names).unwrap();
+        let let_through = checks::topup(&opening.topup, &layout).is_ok();
         Tally {
-            layout: Layout::of(&opening.nums, &opening.names).unwrap(),
+            layout,
             opening: opening.clone(),
             orders: HashMap::new(),
             delivered: HashMap::new(),
-            lots: HashMap::new(),
+            taken: HashMap::new(),
+            lifts: 0,
+            topup: let_through.then(|| opening.topup.clone()),
+            zeros: opening.last == vec![0; layout.last_orders()],
             history: Vec::new(),
+        }
+    }
+
+    /// A slice is lent; whether this ends the time of one table.
+    fn ends_table(&mut self, slice: &Slice) -> bool {
+        match slice {
+            Slice::Topup(_) => self.topup.take().is_some(),
+            Slice::Buffer(_) | Slice::Queue(_) => false,
+            _ => {
+                self.zeros = false;
+                false
+            }
+        }
+    }
+
+    /// Carries out a command and checks what it answers and leaves.
+    fn carry_out(&mut self, lent: &mut Lent, command: Command) {
+        let lifts = lifts_of(lent, &command);
+        let Some((request, answer)) = stands_as(lent, command) else {
+            return;
+        };
+        assert!(![2, 3, 9].contains(&answer));
+        assert!(answer != 17 || self.topup.is_none());
+        if answer == 0 {
+            self.add(&request);
+            self.lifts += lifts;
+        }
+        self.check(lent);
+        if self.zeros {
+            assert_ne!(answer, 13);
+            self.check_last_orders(lent);
         }
     }
 
@@ -337,7 +474,8 @@ impl Tally {
             let price = self.opening.nums[self.layout.price(line.item as usize)];
             sum += line.quantity as i64 * price;
             let stock = (line.supply_warehouse, line.item);
-            *self.lots.entry(stock).or_insert(0) += line.quantity as i64;
+            let taken = self.taken.entry(stock).or_default();
+            taken.push(line.quantity as i64);
         }
         let place = (r.warehouse, r.district);
         self.orders
@@ -380,6 +518,7 @@ impl Tally {
     /// The claim about the whole list.
     fn check(&self, lent: &Lent) {
         let (layout, nums) = (&self.layout, &lent.nums);
+        let mut lifts = 0;
         assert!(lent.names == self.opening.names);
         assert_eq!(nums[5] as usize, self.history.len());
         for (before, row) in self.history.iter().enumerate() {
@@ -388,17 +527,35 @@ impl Tally {
         for w in 1..=layout.warehouses {
             let paid = self.paid(|row| row[4] == w as i64);
             assert_eq!(nums[layout.warehouse(w)][1], paid);
-            for i in 1..=layout.items {
-                let row = &nums[layout.stock(w, i)];
-                let lots = self.lots.get(&(w as u64, i as u64)).copied().unwrap_or(0);
-                assert_eq!(row[1], lots);
-                let opening = self.opening.nums[layout.stock(w, i)][0];
-                assert_eq!((row[0] - (opening - lots)) % 91, 0);
-            }
+            lifts += (1..=layout.items)
+                .map(|i| self.check_stock(nums, w, i))
+                .sum::<i64>();
             for d in 1..=10 {
                 self.check_district(nums, w, d);
             }
         }
+        if self.topup.is_some() {
+            assert_eq!(self.lifts, lifts as u64);
+        }
+    }
+
+    /// A stock row by what was taken from it; its lifts, where the table is unchanged.
+    fn check_stock(&self, nums: &[i64], w: usize, i: usize) -> i64 {
+        let (row, none) = (self.layout.stock(w, i), Vec::new());
+        let taken = self.taken.get(&(w as u64, i as u64)).unwrap_or(&none);
+        let lots: i64 = taken.iter().sum();
+        let on_hand = nums[row.start];
+        assert_eq!(nums[row.start + 1], lots);
+        assert!((0..=9_999).contains(&on_hand));
+        let Some(topup) = &self.topup else {
+            return 0;
+        };
+        let (margin, lift) = (topup[2 * i - 2], topup[2 * i - 1]);
+        let opening = self.opening.nums[row.start];
+        let (expected, lifts) = topped_up(opening, margin, lift, taken);
+        assert_eq!(on_hand, expected);
+        assert_eq!(on_hand, opening - lots + lift * lifts);
+        lifts
     }
 
     /// Each number is the largest of the customer's orders, in the tally and in the book.
@@ -442,6 +599,36 @@ impl Tally {
     }
 }
 
+/// On hand after these quantities are taken in turn, and how many lifts there were: the rule said anew.
+fn topped_up(opening: i64, margin: i64, lift: i64, taken: &[i64]) -> (i64, i64) {
+    taken
+        .iter()
+        .fold((opening, 0), |(on_hand, lifts), quantity| {
+            match on_hand >= margin + quantity {
+                true => (on_hand - quantity, lifts),
+                false => (on_hand + lift - quantity, lifts + 1),
+            }
+        })
+}
+
+/// The lifts that an order answers, carried out on a twin; 0 for any other call.
+fn lifts_of(lent: &Lent, command: &Command) -> u64 {
+    let Command::Call(Request::NewOrder(r)) = command else {
+        return 0;
+    };
+    match SecondEngine.new_order(&mut lent.clone(), r) {
+        Outcome::Committed(figures) => figures.lifts,
+        Outcome::Refused(_) => 0,
+    }
+}
+
+/// Whether 2 and 3 let a book through, whatever table is lent.
+fn accepted(lent: &Lent) -> bool {
+    let (nums, names) = (&lent.nums, &lent.names);
+    let layout = Layout::of(nums, names);
+    layout.is_some_and(|layout| ends(open(nums, names, &layout.usual_topup())) == (0, 0))
+}
+
 /// Carries out a command; the call that it is in the lists of demand 3, and its number. A run that takes a request is a Delivery on its date; one
 /// refused by 16 and a call that queues are none.
 fn stands_as(lent: &mut Lent, command: Command) -> Option<(Request, u64)> {
@@ -473,49 +660,38 @@ fn delivery_of(waiting: &Waiting, date: u64) -> Delivery {
 }
 
 /// The claim after each call of lists from opened books; 2, 3 and 9 are never answered. With last orders that were all 0
-/// at opening, 13 is not either, and they are those of the tally and of a scan.
+/// at opening, 13 is not either, and they are those of the tally and of a scan. As long as the table is one that 17 lets through, it is not answered,
+/// and on hand and lifts are those of the tally.
 #[test]
 fn opened_lists_keep_to_the_tally() {
     let mut counts = [0; 2];
-    for number in 0..1_200 {
-        let text = lists::list(23, number);
+    let (mut changed, mut lifts) = (0, 0);
+    for number in 0..1_500 {
         let mut slices = Slices::default();
-        let mut tally = None;
-        let mut zeros = false;
-        for line in text.lines() {
-            let lent = &mut slices.lent;
+        let mut tally: Option<Tally> = None;
+        for line in lists::list(23, number).lines() {
             match (parse(line.as_bytes()), &mut tally) {
-                (Command::Lend(slice), _) => {
-                    zeros &= matches!(slice, Slice::Buffer(_) | Slice::Queue(_));
+                (Command::Lend(slice), tally) => {
+                    let tally = tally.as_mut();
+                    changed += u64::from(tally.is_some_and(|tally| tally.ends_table(&slice)));
                     slices.set(slice);
                 }
-                (Command::Open, None) if ends(open(&lent.nums, &lent.names)).0 == 0 => {
-                    let started = Tally::of(lent);
-                    zeros = lent.last == vec![0; started.layout.last_orders()];
+                (Command::Open, None) if accepted(&slices.lent) => {
+                    let started = Tally::of(&slices.lent);
+                    counts[usize::from(started.zeros)] += 1;
                     tally = Some(started);
-                    counts[usize::from(zeros)] += 1;
                 }
-                (command, Some(tally)) => {
-                    let Some((request, answer)) = stands_as(lent, command) else {
-                        continue;
-                    };
-                    assert!(![2, 3, 9].contains(&answer));
-                    if answer == 0 {
-                        tally.add(&request);
-                    }
-                    tally.check(lent);
-                    if zeros {
-                        assert_ne!(answer, 13);
-                        tally.check_last_orders(lent);
-                    }
-                }
+                (command, Some(tally)) => tally.carry_out(&mut slices.lent, command),
                 _ => {}
             }
         }
+        lifts += tally.map_or(0, |tally| tally.lifts);
     }
     let [wrong, right] = counts;
     assert!(right > 300, "{right} opened books");
     assert!(wrong > 5, "{wrong} with last orders not all 0");
+    assert!(changed > 15, "{changed} with another table later");
+    assert!(lifts > 2_000, "{lifts} lifts");
 }
 
 /// The payments that were committed since the notes were lent, and what the slices were then.
@@ -582,7 +758,7 @@ impl Noted {
 #[test]
 fn texts_are_the_notes_newest_first() {
     let (mut noted, mut unnoted) = (0, 0);
-    for number in 0..1_500 {
+    for number in 0..1_800 {
         let mut slices = Slices::default();
         let mut since: Option<Noted> = None;
         for line in lists::list(29, number).lines() {

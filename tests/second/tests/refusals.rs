@@ -3,7 +3,7 @@
 mod common;
 
 use common::*;
-use second::replay::Lent;
+use second::replay::{Engine, Lent, SecondEngine};
 use second::*;
 
 /// A book and a request to it, both sound until a fault is put in.
@@ -27,6 +27,7 @@ fn put_fault(case: &mut Case, number: u64) {
         (_, 9) => nums[district(1, 1)] = 10_000,
         (_, 13) => case.lent.last[last(1, 1, 2)] = -1,
         (_, 14) => case.lent.notes.truncate(NOTE_BYTES - 1),
+        (_, 17) => case.lent.topup[4] = 9_991, // of item 3, which no line names but for 12
         (Request::NewOrder(_), 11) => nums[district(1, 1) + 2] = 4,
         (Request::Payment(_), 11) => nums[5] = 2,
         _ => put_request_fault(&mut case.request, number),
@@ -68,7 +69,7 @@ fn calls() -> [(Request, Vec<u64>); 5] {
     let payment = Request::Payment(payment_by(Who::Number(1)));
     let order_status = Request::OrderStatus(status_of(Who::Number(1)));
     [
-        (new_order, vec![2, 4, 5, 6, 7, 8, 9, 13, 11, 12]),
+        (new_order, vec![2, 4, 5, 6, 7, 8, 9, 13, 17, 11, 12]),
         (payment, vec![2, 14, 4, 5, 6, 7, 8, 9, 10, 11]),
         (Request::Delivery(delivery_at(1)), vec![2, 4, 7, 8, 9]),
         (order_status, vec![2, 4, 5, 6, 9, 10, 13]),
@@ -123,8 +124,10 @@ fn two_refusals_at_once() {
 
 #[test]
 fn opening_refusals() {
-    let answer = |lent: &Lent| ends(open(&lent.nums, &lent.names));
+    let answer = |lent: &Lent| ends(SecondEngine.open(lent));
     let mut lent = fresh();
+    lent.topup[4] = 9_991;
+    assert_eq!(answer(&lent), (17, 0));
     lent.nums[warehouse(1)] = 10_000;
     assert_eq!(answer(&lent), (3, 0));
     lent.names.pop();
@@ -173,7 +176,7 @@ fn opening_rule_number_by_number() {
             } else {
                 bad
             };
-            let answer = ends(open(&lent.nums, &lent.names));
+            let answer = ends(SecondEngine.open(&lent));
             assert_eq!(answer, (expected, 0), "{position} {value}");
         }
         lent.nums[position] = sound;
@@ -195,7 +198,7 @@ fn opening_judges_all_names() {
             let first = position % 32 == 0;
             let sound = (32..=126).contains(&byte) && !(first && byte == 32);
             let expected = if sound { (0, 0) } else { (3, 0) };
-            assert_eq!(ends(open(&lent.nums, &lent.names)), expected);
+            assert_eq!(ends(SecondEngine.open(&lent)), expected);
         }
     }
 }
@@ -208,7 +211,7 @@ fn heads_and_lengths() {
             let mut lent = in_use();
             change(&mut lent);
             assert_eq!(call(&mut lent, &request), (2, 0), "{request:?}");
-            assert_eq!(ends(open(&lent.nums, &lent.names)), (2, 0));
+            assert_eq!(ends(SecondEngine.open(&lent)), (2, 0));
         };
         for length in 0..=7 {
             refused(&|lent| lent.nums.truncate(length));

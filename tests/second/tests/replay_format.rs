@@ -20,7 +20,8 @@ fn digests() {
     assert_eq!(digest(&vec![b'a'; 1_000_000]), million);
 }
 
-/// The hashed text of document REPLAY's example, nums 1, 2, 3 and names ALM; of nothing; and of the ends of the ranges.
+/// The hashed text of document REPLAY's example, nums 1, 2, 3 and names ALM; of nothing; and of the ends of the ranges. It has no line for the top-up
+/// table.
 #[test]
 fn fingerprints() {
     let of = |text: String| hex::write(&sha256::digest(text.as_bytes())[..6]);
@@ -32,6 +33,7 @@ fn fingerprints() {
         notes: b" ;".to_vec(),
         buffer: b"\t\n".to_vec(),
         queue: record(1, &[[100, 1, 3]]),
+        topup: vec![10, 91],
     };
     let text = "nums=1,2,3\nnames=414c4d\nlast=0,1\nnotes=203b\nbuffer=090a\nqueue=1,100,1,3";
     assert_eq!(
@@ -49,6 +51,7 @@ fn fingerprints() {
         notes: vec![255, 10],
         buffer: vec![0],
         queue: record(most, &[[most; 3]; 16]),
+        topup: vec![],
     };
     let text = "nums=-1,-9223372036854775808,10\nnames=00ff\nlast=-1\nnotes=ff0a\nbuffer=00\nqueue=18446744073709551615";
     let places = ",18446744073709551615".repeat(48);
@@ -121,6 +124,7 @@ fn fingerprints_follow_the_slices() {
     let sixth = open(&mut replay, "BYTES buffer 20");
     let seventh = open(&mut replay, "QUEUE 0 0 0 1");
     let eighth = open(&mut replay, "QUEUE 1 0 0 1");
+    let ninth = open(&mut replay, "SLICE topup 0 10");
     assert_ne!(first, second);
     assert_eq!(second, third);
     assert_ne!(third, fourth);
@@ -128,6 +132,7 @@ fn fingerprints_follow_the_slices() {
     assert_ne!(fifth, sixth);
     assert_ne!(sixth, seventh);
     assert_ne!(seventh, eighth);
+    assert_eq!(eighth, ninth);
 }
 
 /// Last orders that no command has set are made anew at each head in range; others stay as they are.
@@ -181,6 +186,34 @@ fn notes_made_anew() {
     assert_eq!(after("SLICE nums 1 1 1 1 1 0"), (None, vec![]));
 }
 
+/// So is a top-up table, as 10 and 91 for each item, whether or not last orders and notes are set.
+#[test]
+fn topup_made_anew() {
+    let mut engine = SecondEngine;
+    let mut replay = Replay::new(&mut engine);
+    let mut after = |command: &str| {
+        let answer = replay.step(command.as_bytes());
+        (answer, replay.slices.lent.topup.clone())
+    };
+    let bad = Some("BAD SLICE".to_string());
+    let usual = |items: usize| [10, 91].repeat(items);
+    assert_eq!(after("BYTES names 41"), (None, vec![]));
+    assert_eq!(after("SLICE nums 1 2 3 1 1"), (None, vec![])); // five numbers
+    assert_eq!(after("SLICE nums 1 2 100001 1 1 0"), (None, vec![]));
+    assert_eq!(after("SLICE nums 1 2 3 1 1 0"), (None, usual(3)));
+    assert_eq!(after("SLICE last 7"), (None, usual(3)));
+    assert_eq!(after("BYTES notes -"), (None, usual(3)));
+    assert_eq!(after("SLICE nums 2 3 1 1 1 1 77"), (None, usual(1)));
+    assert_eq!(after("SLICE topup 10 +91"), (bad.clone(), usual(1)));
+    assert_eq!(after("SLICE nums 1 1 5 1 1 0"), (None, usual(5)));
+    assert_eq!(after("SLICE nums 1 1 5 1 1 2"), (None, usual(5))); // history count above H
+    assert_eq!(after("SLICE nums 1 1 4 1 1 x"), (bad, usual(5)));
+    assert_eq!(after("SLICE topup -1 9999"), (None, vec![-1, 9_999]));
+    assert_eq!(after("SLICE nums 1 1 5 1 1 0"), (None, vec![-1, 9_999]));
+    assert_eq!(after("SLICE topup"), (None, vec![]));
+    assert_eq!(after("SLICE nums 1 1 5 1 1 0"), (None, vec![]));
+}
+
 /// The commands that lend a book's numbers and names alone.
 fn lend_book(lent: &Lent) -> Vec<String> {
     let lend = second::lists::lend(lent);
@@ -197,7 +230,8 @@ fn last_orders_of_calls() {
         replay.step(command.as_bytes());
     }
     let answer = replay.step(b"N 2 3 2 100 1 1 1 1").unwrap();
-    assert!(answer.starts_with("N 0 1 115 | "));
+    assert!(answer.starts_with("N 0 1 115 0 | "));
+    assert_eq!(replay.slices.lent.topup, TOPUP);
     let mut expected = vec![0; LAST_ORDERS];
     expected[last(2, 3, 2)] = 1;
     assert_eq!(replay.slices.lent.last, expected);
@@ -247,7 +281,7 @@ fn answers_without_a_book() {
 
 #[test]
 fn passed_over() {
-    let text = "LEVEL 3\nLEVEL\nSLICE topup x\nSLICE archive\nBYTES other x\n\n";
+    let text = "LEVEL 3\nLEVEL\nSLICE bands x\nSLICE archive\nBYTES other x\n\n";
     assert_eq!(replayed(text), [""; 0]);
 }
 
@@ -261,6 +295,9 @@ const MALFORMED: &[&str] = &[
     "SLICE last x",
     "SLICE last 1  2",
     "SLICE last -9223372036854775809",
+    "SLICE topup x",
+    "SLICE topup 10  91",
+    "SLICE topup 10 9223372036854775808",
     "BYTES",
     "BYTES names",
     "BYTES names 4",

@@ -78,6 +78,7 @@ fn once_and_nowhere_else() {
     let figures = NewOrderFigures {
         order: 1,
         total: 311, // 300 x 0.9 x 1.15 = 310.5; three times 103.5 would be 312
+        lifts: 0,
     };
     assert_eq!(outcome, Outcome::Committed(figures));
     let slot = &lent.nums[layout.order(1, 1, 1)];

@@ -16,11 +16,11 @@ use Rattle.desk.proofs.step.Reads as step-reads
 use Rattle.stdio.proofs.put.Reads as put-reads
 
 abbrev Inv-loop : tie.InvT-loop
-Inv-loop b₀ names last₀ notes₀ line₀ len block out₀ n₀ at₀ b last notes line out n at =
-    (length b ≡ length b₀) × ((length last ≡ length last₀) × ((length notes ≡ length notes₀) × ((length out ≡ 2048) × FedUpTo (lent b₀ names last₀ notes₀) (take len line₀) block (lent b names last notes) line n at)))
+Inv-loop b₀ names last₀ notes₀ topup line₀ len block out₀ n₀ at₀ b last notes line out n at =
+    (length b ≡ length b₀) × ((length last ≡ length last₀) × ((length notes ≡ length notes₀) × ((length out ≡ 2048) × FedUpTo (lent b₀ names last₀ notes₀ topup) (take len line₀) block (lent b names last notes topup) line n at)))
 
 abbrev μ-loop : tie.MeasureT-loop
-μ-loop b₀ names last₀ notes₀ line₀ len block out₀ n₀ at₀ b last notes line out n at = length block - at
+μ-loop b₀ names last₀ notes₀ topup line₀ len block out₀ n₀ at₀ b last notes line out n at = length block - at
 
 loop-holds : tie.Need-loop-holds Inv-loop μ-loop
 loop-holds c =

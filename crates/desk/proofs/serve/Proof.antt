@@ -14,11 +14,11 @@ use Rattle.stdio.proofs.get.Reads as get-reads
 use Rattle.stdio.proofs.put.Reads as put-reads
 
 abbrev Inv-loop : tie.InvT-loop
-Inv-loop b₀ names last₀ notes₀ block₀ line₀ len₀ turns₀ b last notes block line len turns =
-    (length b ≡ length b₀) × ((length last ≡ length last₀) × ((length notes ≡ length notes₀) × ((length block ≡ 4096) × ServedUpTo (lent b₀ names last₀ notes₀) (lent b names last notes) line len)))
+Inv-loop b₀ names last₀ notes₀ topup block₀ line₀ len₀ turns₀ b last notes block line len turns =
+    (length b ≡ length b₀) × ((length last ≡ length last₀) × ((length notes ≡ length notes₀) × ((length block ≡ 4096) × ServedUpTo (lent b₀ names last₀ notes₀ topup) (lent b names last notes topup) line len)))
 
 abbrev μ-loop : tie.MeasureT-loop
-μ-loop b₀ names last₀ notes₀ block₀ line₀ len₀ turns₀ b last notes block line len turns = turns
+μ-loop b₀ names last₀ notes₀ topup block₀ line₀ len₀ turns₀ b last notes block line len turns = turns
 
 loop-holds : tie.Need-loop-holds Inv-loop μ-loop
 loop-holds c =

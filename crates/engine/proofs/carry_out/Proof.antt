@@ -57,14 +57,14 @@ same-length-4 c = search needs
 
 returns-2 : tie.Need-returns-2
 returns-2 c =
-    rw (c .before .before .before .before .before .before .before .form2 .given .1) (c .before .before .before .payment .ensures (c .before .before .before .before .before .before .before .before .before .before .before .before .before .before .before .args .last .now))
+    rw (c .before .before .before .before .before .before .before .form2 .given .1) (c .before .before .before .payment .ensures (c .before .before .before .before .before .before .before .before .before .before .before .before .before .before .before .args .last .now) (c .before .before .before .before .before .before .before .before .before .before .before .before .before .before .before .args .topup .now))
 
 same-length-5 : tie.Need-same-length-5
 same-length-5 c = search needs
 
 returns-3 : tie.Need-returns-3
 returns-3 c =
-    rw (c .before .before .before .before .form3 .given .1) (c .before .delivery .ensures (c .before .before .before .before .before .before .before .before .before .before .before .before .args .last .now) (c .before .before .before .before .before .before .before .before .before .before .before .before .args .notes .now))
+    rw (c .before .before .before .before .form3 .given .1) (c .before .delivery .ensures (c .before .before .before .before .before .before .before .before .before .before .before .before .args .last .now) (c .before .before .before .before .before .before .before .before .before .before .before .before .args .notes .now) (c .before .before .before .before .before .before .before .before .before .before .before .before .args .topup .now))
 
 same-length-6 : tie.Need-same-length-6
 same-length-6 c = search needs
@@ -74,14 +74,14 @@ same-length-7 c = search needs
 
 returns-4 : tie.Need-returns-4
 returns-4 c =
-    rw (c .before .before .before .before .form4 .given .1) (c .order-status .ensures (c .before .before .before .before .before .before .before .before .before .before .before .before .args .notes .now))
+    rw (c .before .before .before .before .form4 .given .1) (c .order-status .ensures (c .before .before .before .before .before .before .before .before .before .before .before .before .args .notes .now) (c .before .before .before .before .before .before .before .before .before .before .before .before .args .topup .now))
 
 same-length-8 : tie.Need-same-length-8
 same-length-8 c = search needs
 
 returns-5 : tie.Need-returns-5
 returns-5 c =
-    rw (c .before .before .before .form5 .given .1) (c .stock-level .ensures (c .before .before .before .before .before .before .before .before .before .before .before .args .last .now) (c .before .before .before .before .before .before .before .before .before .before .before .args .notes .now))
+    rw (c .before .before .before .form5 .given .1) (c .stock-level .ensures (c .before .before .before .before .before .before .before .before .before .before .before .args .last .now) (c .before .before .before .before .before .before .before .before .before .before .before .args .notes .now) (c .before .before .before .before .before .before .before .before .before .before .before .args .topup .now))
 
 pub carry-out-spec : {M : Type 1} → statement M
 carry-out-spec =

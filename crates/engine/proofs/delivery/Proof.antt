@@ -15,7 +15,7 @@ same-length c = search needs
 
 returns : tie.Need-returns
 unfolding answerOf ordersOf shownPart numsAfter lastAfter notesAfter
-returns c last notes =
+returns c last notes topup =
     record { kind = refl; says = c .before .before .delivery .ensures .says; orders = c .before .before .delivery .ensures .orders; within = search needs; shows = refl; leaves = rw (c .before .before .delivery .ensures .leaves) }
 
 pub delivery-spec : {M : Type 1} → statement M

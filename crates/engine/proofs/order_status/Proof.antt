@@ -12,7 +12,7 @@ status-shown-requires c κs = search needs
 
 returns : tie.Need-returns
 unfolding answerOf ordersOf shownPart numsAfter lastAfter notesAfter
-returns c notes =
+returns c notes topup =
     record { kind = refl; says = c .before .status-shown .ensures .says; orders = refl; within = c .before .status-shown .ensures .within; shows = c .before .status-shown .ensures .shows; leaves = refl }
 
 pub order-status-spec : {M : Type 1} → statement M

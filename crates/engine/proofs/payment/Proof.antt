@@ -18,7 +18,7 @@ same-length-2 c = search needs
 
 returns : tie.Need-returns
 unfolding answerOf ordersOf shownPart numsAfter lastAfter notesAfter
-returns c last =
+returns c last topup =
     record { kind = refl; says = c .before .before .before .payment .ensures .says; orders = refl; within = search needs; shows = refl; leaves = rw (c .before .before .before .payment .ensures .leaves, c .before .before .before .payment .ensures .writes) }
 
 pub payment-spec : {M : Type 1} → statement M

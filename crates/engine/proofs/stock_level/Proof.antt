@@ -12,7 +12,7 @@ stock-level-requires c κs = search needs
 
 returns : tie.Need-returns
 unfolding answerOf ordersOf shownPart numsAfter lastAfter notesAfter
-returns c last notes =
+returns c last notes topup =
     record { kind = refl; says = c .stock-level .ensures .says; orders = refl; within = search needs; shows = refl; leaves = refl }
 
 pub stock-level-spec : {M : Type 1} → statement M

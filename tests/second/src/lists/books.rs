@@ -1,9 +1,9 @@
 //! Random books: fresh ones, ones in use, and damaged ones.
 
 use super::random::Random;
-use super::{last, notes};
+use super::{last, notes, topups};
 use crate::layout::{
-    customer, order, order_line, Layout, HEAD, HISTORY_COUNT, NAMES_WIDTH, TEXT_WIDTH,
+    customer, order, order_line, topup, Layout, HEAD, HISTORY_COUNT, NAMES_WIDTH, TEXT_WIDTH,
 };
 use crate::ranges::{self, Range};
 use crate::replay::Lent;
@@ -85,6 +85,7 @@ pub fn fresh(random: &mut Random, layout: Layout) -> Book {
     book.lent.nums = nums;
     book.lent.last = vec![0; layout.last_orders()];
     book.lent.notes = notes::spaces(random, &layout);
+    book.lent.topup = topups::sound(random, &layout);
     book
 }
 
@@ -294,6 +295,7 @@ pub fn misfit(random: &mut Random) -> Option<Lent> {
         names,
         last: vec![0; customers],
         notes: vec![b' '; customers * TEXT_WIDTH],
+        topup: topup::USUAL.repeat(usize::try_from(i).unwrap_or(0)),
         ..Lent::default()
     })
 }
@@ -306,10 +308,14 @@ pub fn chaos(random: &mut Random) -> Lent {
             nums[place] = random.between(0, 3);
         }
     }
-    let last = (0..random.below(30)).map(|_| anything(random));
+    let [last, topup] = [30, 8].map(|most| {
+        let numbers = (0..random.below(most)).map(|_| anything(random));
+        numbers.collect::<Vec<i64>>()
+    });
     Lent {
         nums,
-        last: last.collect(),
+        last,
+        topup,
         names: any_bytes(random, 70),
         notes: any_bytes(random, 70),
         ..Lent::default()

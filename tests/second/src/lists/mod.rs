@@ -3,6 +3,7 @@
 pub mod book_lines;
 pub mod books;
 pub mod last;
+pub mod lifted;
 pub mod names;
 pub mod notes;
 pub mod paid;
@@ -11,6 +12,7 @@ pub mod random;
 pub mod requests;
 pub mod stats;
 pub mod texts;
+pub mod topups;
 pub mod totals;
 pub mod turns;
 
@@ -30,9 +32,10 @@ const EACH: [usize; 5] = [20, 20, 20, 20, 20];
 const LAST_ORDERS: [usize; 5] = [40, 4, 4, 48, 4];
 const HISTORY: [usize; 5] = [50, 5, 10, 30, 5];
 const PAYMENTS: [usize; 5] = [4, 84, 4, 4, 4];
+const NO_ORDERS: [usize; 5] = [0, 25, 25, 25, 25];
 
-/// In so many lists at the start of a run no command sets what is lent beside the book: last orders and notes are made anew with each, buffer and
-/// queue are as they start or were left.
+/// In so many lists at the start of a run no command sets what is lent beside the book: last orders, notes and top-up table are made anew with each,
+/// buffer and queue are as they start or were left.
 const UNSET: u64 = 60;
 
 /// The list with this number of the run with this seed.
@@ -42,7 +45,13 @@ pub fn list(seed: u64, number: u64) -> String {
     if number >= UNSET {
         return text;
     }
-    let beside = ["SLICE last", "BYTES notes", "BYTES buffer", "QUEUE"];
+    let beside = [
+        "SLICE last",
+        "SLICE topup",
+        "BYTES notes",
+        "BYTES buffer",
+        "QUEUE",
+    ];
     let sets_beside = |line: &&str| beside.iter().any(|command| line.starts_with(command));
     let lines = text.split_inclusive('\n');
     lines.filter(|line| !sets_beside(line)).collect()
@@ -50,7 +59,7 @@ pub fn list(seed: u64, number: u64) -> String {
 
 fn any_list(random: &mut Random) -> String {
     let weights = [
-        22, 6, 18, 7, 6, 7, 7, 3, 3, 18, 9, 4, 12, 17, 12, 8, 12, 6, 14,
+        22, 6, 18, 7, 6, 7, 7, 3, 3, 18, 9, 4, 12, 21, 12, 8, 12, 6, 14, 18, 20,
     ];
     match random.weighted(&weights) {
         0 => opened(random),
@@ -71,7 +80,9 @@ fn any_list(random: &mut Random) -> String {
         15 => wrong_notes(random),
         16 => deliveries_later(random),
         17 => refilled(random),
-        _ => odd_queues(random),
+        18 => odd_queues(random),
+        19 => topped_up(random),
+        _ => wrong_topup(random),
     }
 }
 
@@ -448,6 +459,96 @@ fn odd_queues(random: &mut Random) -> String {
     text
 }
 
+/// Orders that bring stock to its margins, under tables of every kind that 17 lets through; now and then another table, or for some orders a wrong
+/// one.
+fn topped_up(random: &mut Random) -> String {
+    let layout = topups::dimensions(random);
+    let new = random.percent(60);
+    let mut book = match new {
+        true => books::fresh(random, layout),
+        false => books::in_use(random, layout),
+    };
+    if random.percent(70) {
+        book.lent.notes.clear();
+    }
+    topups::set_stock(random, &mut book);
+    let mut text = lend(&book.lent);
+    if new {
+        text.push_str("OPEN\n");
+    }
+    let changing = random.percent(50);
+    for _ in 0..8 + random.below(16) {
+        match random.weighted(&[80, 12, 8]) {
+            1 => ask(random, &mut text, &mut Asker::new(&book, 20), &NO_ORDERS, 1),
+            2 if changing => other_table(random, &mut text, &mut book),
+            _ => push_order(random, &mut text, &mut book, 4),
+        }
+    }
+    text
+}
+
+/// Another table, or another row, from now on; or a wrong table for an order or two, then the old one again.
+fn other_table(random: &mut Random, text: &mut String, book: &mut books::Book) {
+    match random.below(3) {
+        0 => book.lent.topup = topups::sound(random, &book.layout),
+        1 => topups::change(random, book),
+        _ => wrong_for_a_while(random, text, book),
+    }
+    text.push_str(&lend_topup(&book.lent));
+}
+
+/// An opening, and one or two orders that take nothing, under a wrong table; the book is then as it was.
+fn wrong_for_a_while(random: &mut Random, text: &mut String, book: &mut books::Book) {
+    let kept = book.lent.clone();
+    topups::damage(random, book);
+    text.push_str(&lend_topup(&book.lent));
+    text.push_str("OPEN\n");
+    for _ in 0..1 + random.below(2) {
+        push_order(random, text, book, 20);
+    }
+    book.lent = kept;
+}
+
+/// Tables that 17 refuses, and in most lists a fault that opening or New-Order meets before it or just behind; then the right one, and a wrong one
+/// again.
+fn wrong_topup(random: &mut Random) -> String {
+    let layout = topups::dimensions(random);
+    let mut book = match random.below(3) {
+        0 => books::in_use(random, layout),
+        _ => books::fresh(random, layout),
+    };
+    book.lent.notes.clear();
+    topups::set_stock(random, &mut book);
+    match random.below(10) {
+        0 => books::damage_head(random, &mut book),
+        1 => books::damage(random, &mut book, 2),
+        2 | 3 => last::damage_for_sure(random, &mut book),
+        4..=6 => books::damage_beside(random, &mut book),
+        _ => {}
+    }
+    let mut text = lend(&book.lent);
+    for _ in 0..5 {
+        wrong_for_a_while(random, &mut text, &mut book);
+    }
+    text.push_str(&lend_topup(&book.lent));
+    text.push_str("OPEN\n");
+    for _ in 0..3 {
+        push_order(random, &mut text, &mut book, 10);
+    }
+    wrong_for_a_while(random, &mut text, &mut book);
+    ask(random, &mut text, &mut Asker::new(&book, 20), &ORDERS, 2);
+    text
+}
+
+/// An order that brings stock to its margins; in so many of a hundred cases a line names an item that the book lacks.
+fn push_order(random: &mut Random, text: &mut String, book: &mut books::Book, faulty: usize) {
+    let mut request = topups::order(random, book);
+    if random.percent(faulty) {
+        topups::damage_request(random, book, &mut request);
+    }
+    push(text, &Request::NewOrder(request));
+}
+
 /// A call that queues a request, some of them out of range.
 fn queue(random: &mut Random, text: &mut String, book: &books::Book) {
     let mut request = queues::request(random, book);
@@ -517,7 +618,13 @@ pub fn lend(lent: &Lent) -> String {
     text.push_str(&lend_notes(lent));
     text.push_str(&lend_buffer(&lent.buffer));
     text.push_str(&lend_queue(&lent.queue));
+    text.push_str(&lend_topup(lent));
     text
+}
+
+/// The command that sets the top-up table.
+fn lend_topup(lent: &Lent) -> String {
+    slice("topup", &lent.topup)
 }
 
 /// The command that sets the last orders.

@@ -1,7 +1,7 @@
 //! How often the random lists reach each answer of each call.
 
 use super::totals::HALF;
-use super::{paid, turns};
+use super::{lifted, paid, turns};
 use crate::checks;
 use crate::layout::{customer, district, Layout, NAMES_WIDTH};
 use crate::new_order::{exact_total, rates, PARTS};
@@ -15,7 +15,7 @@ use crate::Outcome;
 use std::collections::{BTreeMap, BTreeSet};
 
 /// Counts of answers, by word and number and, where it tells more, by kind. Searches by name count once more, by the word `=` and each kind that
-/// they are of, payments by the word `;`, and calls that queue or run a Delivery by the word `>`.
+/// they are of, payments by the word `;`, calls that queue or run a Delivery by the word `>`, and orders and openings by the word `+`.
 pub type Counts = BTreeMap<(String, u64, String), u64>;
 
 /// Runs the lists through the second engine and counts the answers.
@@ -34,7 +34,9 @@ pub fn count(seed: u64, lists: u64) -> Counts {
                 let turns = turns::kinds(key.1, line, &found).into_iter();
                 let kinds = searches.map(|kind| ("=", kind));
                 let kinds = kinds.chain(payments.map(|kind| (";", kind)));
-                for (word, kind) in kinds.chain(turns.map(|kind| (">", kind))) {
+                let kinds = kinds.chain(turns.map(|kind| (">", kind)));
+                let tables = lifted::kinds(key.1, line, &found).into_iter();
+                for (word, kind) in kinds.chain(tables.map(|kind| ("+", kind))) {
                     let once_more = (word.to_string(), key.1, kind);
                     *counts.entry(once_more).or_insert(0) += 1;
                 }

@@ -31,6 +31,7 @@ pub enum Slice {
     Nums(Vec<i64>),
     Names(Vec<u8>),
     Last(Vec<i64>),
+    Topup(Vec<i64>),
     Notes(Vec<u8>),
     Buffer(Vec<u8>),
     Queue(Queue),
@@ -52,6 +53,7 @@ fn parse_tokens(tokens: &[&str]) -> Option<Command> {
     match (word, rest) {
         ("SLICE", ["nums", values @ ..]) => book_numbers(values).map(lend(Slice::Nums)),
         ("SLICE", ["last", values @ ..]) => book_numbers(values).map(lend(Slice::Last)),
+        ("SLICE", ["topup", values @ ..]) => book_numbers(values).map(lend(Slice::Topup)),
         ("BYTES", ["names", token]) => hex::read(token).map(lend(Slice::Names)),
         ("BYTES", ["notes", token]) => hex::read(token).map(lend(Slice::Notes)),
         ("BYTES", ["buffer", token]) => hex::read(token).map(lend(Slice::Buffer)),

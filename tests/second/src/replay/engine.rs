@@ -21,6 +21,8 @@ pub struct Lent {
     pub buffer: Vec<u8>,
     /// The Deliveries that wait.
     pub queue: Queue,
+    /// Margin and lift of each item; no call writes it.
+    pub topup: Vec<i64>,
 }
 
 impl Lent {
@@ -30,7 +32,7 @@ impl Lent {
         hex::write(&digest[..6])
     }
 
-    /// A line for each slice: numbers with commas between, bytes in lower-case hex.
+    /// A line for each slice that calls write, and the names: numbers with commas between, bytes in lower-case hex.
     fn hashed_text(&self) -> Vec<u8> {
         let numbers = self.nums.len() + self.last.len();
         let bytes = self.names.len() + self.notes.len() + self.buffer.len();
@@ -99,11 +101,12 @@ pub struct SecondEngine;
 
 impl Engine for SecondEngine {
     fn open(&mut self, lent: &Lent) -> Outcome<()> {
-        crate::open(&lent.nums, &lent.names)
+        crate::open(&lent.nums, &lent.names, &lent.topup)
     }
 
     fn new_order(&mut self, lent: &mut Lent, request: &NewOrder) -> Outcome<NewOrderFigures> {
-        crate::new_order(&mut lent.nums, &lent.names, &mut lent.last, request)
+        let (last, topup) = (&mut lent.last, &lent.topup);
+        crate::new_order(&mut lent.nums, &lent.names, last, topup, request)
     }
 
     fn payment(&mut self, lent: &mut Lent, request: &Payment) -> Outcome<PaymentFigures> {

@@ -48,9 +48,10 @@ pub fn run(
 #[derive(Default)]
 pub struct Slices {
     pub lent: Lent,
-    /// Has a command set the last orders, the notes? They are then never made anew.
+    /// Has a command set the last orders, the notes, the top-up table? They are then never made anew.
     last_set: bool,
     notes_set: bool,
+    topup_set: bool,
 }
 
 impl Slices {
@@ -66,12 +67,16 @@ impl Slices {
                 self.lent.notes = notes;
                 self.notes_set = true;
             }
+            Slice::Topup(topup) => {
+                self.lent.topup = topup;
+                self.topup_set = true;
+            }
             Slice::Buffer(buffer) => self.lent.buffer = buffer,
             Slice::Queue(queue) => self.lent.queue = queue,
         }
     }
 
-    /// With a head in range, last orders that no command has set become all 0, and such notes all spaces.
+    /// With a head in range, last orders that no command has set become all 0, such notes all spaces, such a table 10 and 91 for each item.
     fn set_nums(&mut self, nums: Vec<i64>) {
         if let Some(layout) = Layout::from_head(&nums) {
             if !self.last_set {
@@ -79,6 +84,9 @@ impl Slices {
             }
             if !self.notes_set {
                 self.lent.notes = vec![b' '; layout.note_bytes()];
+            }
+            if !self.topup_set {
+                self.lent.topup = layout.usual_topup();
             }
         }
         self.lent.nums = nums;

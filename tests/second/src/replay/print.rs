@@ -11,10 +11,10 @@ use crate::request::{Request, Who};
 use std::fmt::Display;
 
 /// Makes one of the five calls and prints its answer.
-pub fn call(engine: &mut impl Engine, lent: &mut Lent, request: &Request) -> String {
+pub fn call(engine: &mut (impl Engine + ?Sized), lent: &mut Lent, request: &Request) -> String {
     match request {
         Request::NewOrder(r) => match engine.new_order(lent, r) {
-            Outcome::Committed(f) => format!("N 0 {} {}", f.order, f.total),
+            Outcome::Committed(f) => format!("N 0 {} {} {}", f.order, f.total, f.lifts),
             Outcome::Refused(refusal) => refused("N", refusal),
         },
         Request::Payment(r) => match engine.payment(lent, r) {

@@ -10,6 +10,7 @@ pub const NUMBERS: usize = 5_211;
 pub const NAME_BYTES: usize = 1_280;
 pub const LAST_ORDERS: usize = 40;
 pub const NOTE_BYTES: usize = 20_000;
+pub const TOPUP: [i64; 6] = [10, 91, 10, 91, 10, 91];
 
 /// Rows, counted from 1 as the book counts them.
 pub fn warehouse(w: usize) -> usize {
@@ -47,7 +48,8 @@ pub fn text(w: usize, d: usize, c: usize) -> usize {
     500 * last(w, d, c)
 }
 
-/// A book that opening accepts, its last orders all 0 and its notes spaces. Customer 1 is ALM, EVA and customer 2 is ALM, BO.
+/// A book that opening accepts, its last orders all 0, its notes spaces, its top-up table document 01's. Customer 1 is ALM, EVA and customer 2 is
+/// ALM, BO.
 pub fn fresh() -> Lent {
     let mut nums = vec![0; NUMBERS];
     nums[..6].copy_from_slice(&[2, 2, 3, 3, 2, 0]);
@@ -73,6 +75,7 @@ pub fn fresh() -> Lent {
         names,
         last: vec![0; LAST_ORDERS],
         notes: vec![b' '; NOTE_BYTES],
+        topup: TOPUP.to_vec(),
         ..Lent::default()
     }
 }
@@ -85,6 +88,7 @@ pub fn program() -> Lent {
         names: book.names,
         last: book.last,
         notes: book.notes,
+        topup: book.topup,
         ..Lent::default()
     }
 }

@@ -1,0 +1,2 @@
+-- The modules of the crate's proofs that belong to no one function.
+pub mod Rows
