@@ -1,15 +1,18 @@
 //! Measures the proved library beside the second engine, SQLite in memory and, for the calls that scan, a plain sum.
 //!
-//! Prints Markdown tables and draws one chart: bench CHART [quick | profile CALL WAREHOUSES]. Quick leaves out the large books and
-//! the chart; profile carries out one call on the proved library alone, for a profiler to look at.
+//! Prints Markdown tables and draws one chart: bench ROOT [quick | on-disk | profile CALL WAREHOUSES], ROOT being this repository's folder. Quick
+//! leaves out the large books, the books on disk and the chart; on-disk has the books on disk alone; profile carries out one call on the proved
+//! library alone, for a profiler to look at.
 
 mod book;
 mod by_hand;
 mod chart;
 mod check;
 mod contender;
+mod keeper;
 mod load;
 mod measure;
+mod on_disk;
 mod requests;
 mod sql;
 mod sqlite;
@@ -18,6 +21,7 @@ mod tables;
 mod topup;
 
 use book::Size;
+use std::path::Path;
 
 const HALF: usize = 1_500;
 const NEARLY: usize = 2_700;
@@ -33,13 +37,19 @@ fn main() {
             let warehouses = warehouses.parse().expect("a number of warehouses");
             measure::alone(call, &sized(warehouses, NEARLY));
         }
-        [chart] => {
-            let (title, book) = measured(5);
-            let drawn = chart::draw(title, &book.rows);
-            std::fs::write(chart, drawn).expect("the chart can be written");
-            grown();
+        [root, "on-disk"] => {
+            tables::machine();
+            kept(Path::new(root));
         }
-        _ => eprintln!("usage: bench CHART [quick | profile CALL WAREHOUSES]"),
+        [root] => {
+            let (root, (title, book)) = (Path::new(root), measured(5));
+            let drawn = chart::draw(title, &book.rows);
+            std::fs::write(root.join("docs/benchmarks.svg"), drawn)
+                .expect("the chart can be written");
+            grown();
+            kept(root);
+        }
+        _ => eprintln!("usage: bench ROOT [quick | on-disk | profile CALL WAREHOUSES]"),
     }
 }
 
@@ -121,4 +131,24 @@ fn grown() {
     };
     let sizes = [10, 3, 1].map(|parts| measure::book(&largest(parts), 2));
     tables::growth(&["A tenth", "A third", "The whole"], &sizes);
+}
+
+/// Books on disk: of a cooperative's size and with TPC-C's customers and items, each just opened and with 1,500 orders in each district; then the
+/// start.
+fn kept(root: &Path) {
+    let place = on_disk::Place::below(root);
+    let kind = |title, customers, items, before| on_disk::Kind {
+        title,
+        customers,
+        items,
+        before,
+    };
+    let kinds = [
+        kind("C 300, I 1,000, new", 300, 1_000, 0),
+        kind("C 300, I 1,000, half full", 300, 1_000, 66_700),
+        kind("C 3,000, I 100,000, new", 3_000, 100_000, 0),
+        kind("C 3,000, I 100,000, half full", 3_000, 100_000, 66_700),
+    ];
+    let books = kinds.map(|kind| on_disk::mixed(&place, &kind, 15));
+    tables::on_disk(&books, &on_disk::started(&place, 150_000, 3));
 }

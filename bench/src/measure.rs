@@ -453,7 +453,7 @@ fn row(field: &mut Field, asker: &mut Asker, timed: &Timed, fewer: usize) -> Row
 }
 
 /// The middle one.
-fn median(numbers: impl Iterator<Item = f64>) -> f64 {
+pub fn median(numbers: impl Iterator<Item = f64>) -> f64 {
     let mut sorted: Vec<f64> = numbers.collect();
     sorted.sort_by(f64::total_cmp);
     sorted[sorted.len() / 2]

@@ -1,6 +1,8 @@
 //! As much of SQLite's C interface as the benchmark needs.
 
 use std::ffi::{c_char, c_int, c_void, CStr, CString};
+use std::os::unix::ffi::OsStrExt;
+use std::path::Path;
 use std::ptr;
 
 #[repr(C)]
@@ -63,15 +65,24 @@ pub fn version() -> String {
         .into_owned()
 }
 
-/// A database in memory. Its statements have to be dropped before it.
+/// A database. Its statements have to be dropped before it.
 pub struct Database(*mut RawDatabase);
 
 impl Database {
     pub fn in_memory() -> Database {
+        Database::named(c":memory:")
+    }
+
+    /// In a file, which is made where it is not there.
+    pub fn in_file(path: &Path) -> Database {
+        let name = CString::new(path.as_os_str().as_bytes()).expect("no byte 0 in a path");
+        Database::named(&name)
+    }
+
+    fn named(name: &CStr) -> Database {
         let mut raw = ptr::null_mut();
         // SAFETY: the name ends with 0 and `raw` outlives the call.
-        let code =
-            unsafe { sqlite3_open_v2(c":memory:".as_ptr(), &mut raw, OPEN_FLAGS, ptr::null()) };
+        let code = unsafe { sqlite3_open_v2(name.as_ptr(), &mut raw, OPEN_FLAGS, ptr::null()) };
         assert_eq!(code, OK, "SQLite does not open");
         Database(raw)
     }

@@ -1,6 +1,7 @@
 //! The tables, in Markdown.
 
 use crate::measure::{Measured, Row, Step, Waiting};
+use crate::on_disk::{Mixed, Started};
 use crate::topup::Table;
 use std::fs;
 
@@ -221,6 +222,75 @@ fn miss(title: &str, row: &Row) -> bool {
         );
     }
     to_second > most || to_sum > 2.0
+}
+
+/// How many times as fast as SQLite on disk `bookkeeper run` has to be, piped and one line at a time.
+const LEAST_PIPED: f64 = 10.0;
+const LEAST_SINGLE: f64 = 1.0;
+
+/// Books on disk: the mix, the start, and what misses what was set out to reach.
+pub fn on_disk(books: &[Mixed], started: &Started) {
+    println!("\n## A book on disk\n");
+    println!("| Book | SQLite, µs | Piped, µs | One line at a time, µs | A line appended, µs | A page written over, µs | SQLite ÷ piped | SQLite ÷ one at a time | SQLite ÷ appended | SQLite ÷ written over |");
+    println!("|---|--:|--:|--:|--:|--:|--:|--:|--:|--:|");
+    for book in books {
+        step_line(book.title, &book.step, 2);
+    }
+    println!();
+    for Mixed {
+        title,
+        requests,
+        committed,
+        records,
+        record_bytes,
+        image,
+        ..
+    } in books
+    {
+        println!("- {title}: {requests} requests, the same answers of all three, {committed} committed, {records} records of {record_bytes} bytes; an image at the end in {} s.", time(*image));
+    }
+    start_lines(started);
+    println!("\nUnder {LEAST_PIPED} times SQLite's speed piped, or slower than SQLite one line at a time:\n");
+    let missed = books.iter().filter(|book| miss_on_disk(book)).count();
+    if missed == 0 {
+        println!("- nothing.");
+    }
+}
+
+/// A million records take what these have taken beyond a new book's start.
+fn start_lines(started: &Started) {
+    let Started {
+        empty,
+        records,
+        by_records,
+        by_image,
+    } = *started;
+    let a_million = |seconds: f64| time((seconds - empty) * 1e6 / records as f64);
+    println!("\n| `run` starts | Records | To its first answer, s | More than a new book's, s a million records |");
+    println!("|---|--:|--:|--:|");
+    println!("| A new book | 0 | {} | – |", time(empty));
+    for (title, seconds) in [
+        ("From the opening image", by_records),
+        ("From the newest image", by_image),
+    ] {
+        println!(
+            "| {title} | {records} | {} | {} |",
+            time(seconds),
+            a_million(seconds)
+        );
+    }
+}
+
+fn miss_on_disk(book: &Mixed) -> bool {
+    let [piped, single] = [book.step.to_others[0], book.step.to_others[1]];
+    let title = book.title;
+    if piped < LEAST_PIPED {
+        println!("- {title}, piped: {piped:.2} times SQLite's speed.");
+    }
+    if single < LEAST_SINGLE {
+        println!("- {title}, one line at a time: {single:.2} times SQLite's speed.");
+    }
+    piped < LEAST_PIPED || single < LEAST_SINGLE
 }
 
 /// Processor, cores, memory, and the versions of what was built with.
