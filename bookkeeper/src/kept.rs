@@ -50,8 +50,14 @@ pub fn create(dir: &Path, book: &Book) -> Result<()> {
     finish().map_err(failed)
 }
 
+/// A mistyped name is said as such.
+fn is_folder(dir: &Path) -> Result<()> {
+    dir.is_dir().then_some(()).ok_or_else(|| format!("there is no folder {}", dir.display()))
+}
+
 /// The book as it was opened.
 pub fn opening(dir: &Path) -> Result<Image> {
+    is_folder(dir)?;
     image::read(&dir.join(OPENING)).map_err(|error| format!("{error}; the opening image is never written again: put its copy back"))
 }
 
@@ -81,6 +87,7 @@ pub fn load(dir: &Path) -> Result<Kept> {
 
 /// The book as it stands, and its journal for writing; nobody else has it for writing meanwhile. A torn last record is cut off.
 pub fn open(dir: &Path) -> Result<(Kept, Writer)> {
+    is_folder(dir)?;
     let path = dir.join(JOURNAL);
     let file = OpenOptions::new().read(true).append(true).open(path).map_err(|error| no_journal(dir, &error))?;
     file.try_lock().map_err(|error| match error {

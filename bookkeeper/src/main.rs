@@ -29,7 +29,8 @@ bookkeeper new DIR < MASTERS
 Makes the folder DIR (which must not be there, or be empty) with the opening image of a book and an empty journal. MASTERS are lines of fields
 parted by tabs, `sizes` first, then in any order each depot, district, farm, item and stock once:
 
-  sizes     W C I O H                    depots (1 to 20), farms a district (3,000), items (100,000), order slots a district (10,000), payments (1,000,000)
+  sizes     W C I O H                    depots (up to 20), farms a district (3,000), items (100,000), and room for
+                                         orders a district (10,000) and for payments (1,000,000)
   depot     depot tax                    taxes and discounts in ten-thousandths, 0 to 9,999
   district  depot district tax           districts 1 to 10 in each depot
   farm      depot district farm last first credit discount

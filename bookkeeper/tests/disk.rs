@@ -40,6 +40,11 @@ fn limited(kib: usize, arguments: &[&OsStr]) -> Command {
     under(&format!("ulimit -f {kib}"), arguments)
 }
 
+/// A command's words with the folder behind the first.
+fn with_words<'a>(words: &'a [&'a str], dir: &'a Path) -> Vec<&'a OsStr> {
+    [OsStr::new(words[0]), dir.as_os_str()].into_iter().chain(words[1..].iter().map(OsStr::new)).collect()
+}
+
 fn run_arguments<'a>(every: &'a str, dir: &'a Path) -> [&'a OsStr; 4] {
     [OsStr::new("run"), OsStr::new("--image-every"), OsStr::new(every), dir.as_os_str()]
 }
@@ -346,8 +351,8 @@ fn standard_output_that_is_full() {
     model.answers(&input);
     goes_on(&dir, &mut model);
     for words in [&["verify"][..], &["show", "farms"], &["close", "1", "9"]] {
-        let arguments: Vec<&OsStr> = [words[0].as_ref(), dir.as_os_str()].into_iter().chain(words[1..].iter().map(OsStr::new)).collect();
-        assert!(finish(&mut under("exec > /dev/full", &arguments), b"").said(1).contains("standard output cannot be written"), "{words:?}");
+        let full = finish(&mut under("exec > /dev/full", &with_words(words, &dir)), b"");
+        assert!(full.said(1).contains("standard output cannot be written"), "{words:?}");
     }
 }
 
@@ -421,7 +426,11 @@ fn a_new_book_over_something() {
     assert!(new(&file, &text).said(1).contains("cannot be made"));
     assert_eq!(fs::read(&file).expect("a file"), b"something");
     assert!(new(&none.join("deeper"), &text).said(1).contains("cannot be made"));
-    for bad in ["", "sizes\t1\n", &text.replace("depot\t1\t700\n", ""), &text.replace("depot\t1\t700\n", "depot\t1\t70000\n"), &(text.clone() + "x")] {
+    for words in [&["run"][..], &["verify"], &["show", "farms"], &["close", "1", "9"]] {
+        assert!(run(&with_words(words, &none), b"").said(1).contains("there is no folder"), "{words:?}");
+    }
+    let with = |depot: &str| text.replace("depot\t1\t700\n", depot);
+    for bad in ["", "sizes\t1\n", &with(""), &with("depot\t1\t70000\n"), &(text.clone() + "x")] {
         assert!(new(&none, bad).said(1).contains("nothing was made"));
         assert!(!none.exists(), "something was made in spite of mistakes");
     }
