@@ -78,17 +78,14 @@ fn queue(book: &mut Book, request: &Request, answer: &mut Vec<u8>) -> Carried {
 /// `R 0` and the run's line; where its Delivery was refused, refusal and detail and the run's line, since the request has left the list; by 16,
 /// refusal and detail alone.
 fn run(book: &mut Book, date: u64, answer: &mut Vec<u8>) -> Carried {
-    let start = answer.len();
-    answer.extend_from_slice(b"R\t");
     let mut line = Vec::new();
     let out = book.run_delivery(date, &mut line);
     let _ = match out[0] {
-        0 => write!(answer, "0\t"),
-        16 => writeln!(answer, "16\t0"),
-        refusal => write!(answer, "{refusal}\t{}\t", out[1]),
+        0 => write!(answer, "R\t0\t"),
+        16 => writeln!(answer, "R\t16\t{}", out[1]),
+        refusal => write!(answer, "R\t{refusal}\t{}\t", out[1]),
     };
     answer.extend_from_slice(&line);
-    debug_assert!(answer[start..].ends_with(b"\n"));
     Carried { changed: out[0] != 16, lifts: None }
 }
 

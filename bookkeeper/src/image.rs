@@ -11,7 +11,7 @@ use std::path::Path;
 
 pub struct Image {
     pub book: Book,
-    /// Where the journal stood, and the rules under which the image was written.
+    /// Where the journal stood.
     pub at: Position,
     /// The opening image's checksum, 0 in itself.
     pub opening: u64,
@@ -25,14 +25,16 @@ const CHUNK: usize = 8_192;
 
 /// Writes an image beside its place, and puts it there once it is on disk. Answers its checksum.
 pub fn write(path: &Path, book: &Book, at: Position, opening: u64) -> Result<u64> {
-    let beside = path.with_extension(if path.extension().is_some() { "image.new" } else { "new" });
-    let written = write_to(&beside, book, at, opening).and_then(|checksum| {
-        std::fs::rename(&beside, path)?;
+    let mut beside = path.as_os_str().to_os_string();
+    beside.push(".new");
+    let beside = Path::new(&beside);
+    let written = write_to(beside, book, at, opening).and_then(|checksum| {
+        std::fs::rename(beside, path)?;
         sync_folder(path.parent().unwrap_or(Path::new(".")))?;
         Ok(checksum)
     });
     written.map_err(|error| {
-        let _ = std::fs::remove_file(&beside);
+        let _ = std::fs::remove_file(beside);
         format!("{} cannot be written: {error}", path.display())
     })
 }

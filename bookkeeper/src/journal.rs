@@ -113,8 +113,8 @@ impl<R: BufRead> Reader<R> {
     fn is_torn(&self, tail: &[u8]) -> bool {
         let begins = |with: &[u8]| tail.iter().zip(with).all(|(byte, with)| byte == with);
         let plain = tail.len() < LONGEST && tail.iter().all(|byte| matches!(byte, b'\t' | 32..=126));
-        let whole = (17..tail.len()).any(|end| checksum_fits(self.at.checksum, &tail[..end]));
-        plain && !whole && (begins(format!("{}\t", self.at.records + 1).as_bytes()) || begins(b"rules\t"))
+        let has_whole = || (17..tail.len()).any(|end| checksum_fits(self.at.checksum, &tail[..end]));
+        plain && !has_whole() && (begins(format!("{}\t", self.at.records + 1).as_bytes()) || begins(b"rules\t"))
     }
 
     fn kind(&self, text: &[u8]) -> Option<Kind> {

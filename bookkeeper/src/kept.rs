@@ -8,7 +8,7 @@ use crate::journal::{Position, Reader, Record, Writer};
 use crate::{say, Result, RULES};
 use std::fs::{File, OpenOptions, TryLockError};
 use std::io::{BufReader, ErrorKind, Read, Take};
-use std::path::{Path, PathBuf};
+use std::path::Path;
 use std::time::{Duration, Instant};
 
 const OPENING: &str = "opening.image";
@@ -186,7 +186,7 @@ struct Progress {
 }
 
 impl Progress {
-    fn new(journal: &PathBuf) -> Progress {
+    fn new(journal: &Path) -> Progress {
         let bytes = std::fs::metadata(journal).map_or(0, |found| found.len());
         Progress { next: Instant::now() + Duration::from_secs(1), bytes }
     }

@@ -16,9 +16,9 @@ const BLOCK: usize = 1 << 20;
 const TOO_LONG: usize = 1_024;
 
 pub struct Desk<'a> {
-    pub dir: &'a Path,
+    dir: &'a Path,
     pub kept: Kept,
-    pub journal: Writer,
+    journal: Writer,
     /// An image is written after so many records; the next at this one.
     every: u64,
     next_image: u64,
@@ -27,7 +27,7 @@ pub struct Desk<'a> {
 
 impl<'a> Desk<'a> {
     pub fn new(dir: &'a Path, kept: Kept, journal: Writer, every: u64) -> Desk<'a> {
-        let next_image = kept.imaged + every;
+        let next_image = kept.imaged.saturating_add(every);
         Desk { dir, kept, journal, every, next_image, answers: Vec::new() }
     }
 
@@ -98,7 +98,7 @@ impl<'a> Desk<'a> {
         if let Err(error) = self.kept.write_image(self.dir, self.journal.on_disk()) {
             say(&format!("{error}; the journal has everything, and the next image is tried later"));
         }
-        self.next_image = self.kept.records + self.every;
+        self.next_image = self.kept.records.saturating_add(self.every);
     }
 }
 

@@ -361,47 +361,54 @@ fn the_papers_listing_and_cases() {
     assert!(said.contains("stock 1 2: on hand is 9999, by the tally 9989\n"), "{said}");
 }
 
+/// Records that no request could have left, and what is said of each.
+const NONSENSE: [(&str, &str); 32] = [
+    ("N 99 1 1 100 1 1 1 > N 0 1 100 0", "warehouse 99 is not 1 to 1"),
+    ("N 1 11 1 100 1 1 1 > N 0 1 100 0", "district 11 is not 1 to 10"),
+    ("N 1 1 3 100 1 1 1 > N 0 1 100 0", "customer 3 is not 1 to 2"),
+    ("N 1 1 1 0 1 1 1 > N 0 1 100 0", "date 0 is not 1 to 6342969600"),
+    ("N 1 1 1 1 > N 0 1 100 0", "number of lines 0 is not 1 to 15"),
+    ("N 1 1 1 1 1 1 > N 0 1 100 0", "number of lines 0 is not 1 to 15"),
+    ("N 1 1 1 1 1 1 1 1 > N 0 1 100 0", "the request has no form"),
+    ("N 1 1 > N 0 1 100 0", "the request has no form"),
+    ("N 1 1 1 1 6 1 1 > N 0 1 100 0", "item 6 is not 1 to 5"),
+    ("N 1 1 1 1 4 1 1 > N 0 1 100 0", "price of item 4: 0 is not 1 to 99999"),
+    ("N 1 1 1 1 1 2 1 > N 0 1 100 0", "supplying warehouse 2 is not 1 to 1"),
+    ("N 1 1 1 1 1 1 11 > N 0 1 100 0", "quantity 11 is not 1 to 10"),
+    ("N 1 1 1 1 1 1 01 > N 0 1 100 0", "\"01\" is not a number"),
+    ("N 1 1 1 1 1 1 99999999999999999999 > N 0 1 100 0", "\"99999999999999999999\" is not a number"),
+    ("N 1 1 1 1 1 1 1 > N 0 1 100", "the answer has 3 numbers and not 4"),
+    ("N 1 1 1 1 1 1 1 > N 0 x 100 0", "\"x\" is not a number"),
+    ("N 1 1 1 1 1 1 1 > P 0 1 100", "the answer is none to this request"),
+    ("N 1 1 1 1 1 1 1 > N", "the answer is none to this request"),
+    ("P 1 1 1 1 =BERG 201 500 > P 0 2 -500", "nobody has the last name \"BERG\""),
+    ("P 1 1 1 1 =ABCDEFGHIJKLMNOPQ 201 500 > P 0 2 -500", "nobody has the last name \"ABCDEFGHIJKLMNOPQ\""),
+    ("P 1 1 1 1 2 201 500 > P 0 2 -500", "the request has no form"),
+    ("P 1 1 1 1 #-1 201 500 > P 0 2 -500", "customer -1 is not 1 to 2"),
+    ("P 1 1 2 1 #1 201 500 > P 0 2 -500", "warehouse of the customer 2 is not 1 to 1"),
+    ("P 1 1 1 0 #1 201 500 > P 0 2 -500", "district of the customer 0 is not 1 to 10"),
+    ("P 1 1 1 1 #1 201 9223372036854775807 > P 0 2 -500", "amount 9223372036854775807 is not 100 to 500000"),
+    ("D 2 1 1 > D 0 10 0 0 0 0 0 0 0 0 0 0", "warehouse 2 is not 1 to 1"),
+    ("D 1 11 1 > D 0 10 0 0 0 0 0 0 0 0 0 0", "carrier 11 is not 1 to 10"),
+    ("Q -1 1 1 > Q 0 0", "warehouse -1 is not 0 to 9999999999"),
+    ("R 1 > R 0 1 1 1 1 10 0 0 0 0 0 0 0 0 0 0", "no Delivery waits"),
+    ("S 1 1 #1 > S 0 1 0 0 0 0", "\"S\" is no request that is recorded"),
+    ("\u{e9} 1 > \u{e9} 0", "\"\\xc3\\xa9\" is no request that is recorded"),
+    (" > ", "the answer is none to this request"),
+];
+
 #[test]
 fn nonsense_is_an_error_with_the_record() {
     let book = paper();
-    let wrong = [
-        ("N 99 1 1 100 1 1 1 > N 0 1 100 0", "warehouse 99 is not 1 to 1"),
-        ("N 1 11 1 100 1 1 1 > N 0 1 100 0", "district 11 is not 1 to 10"),
-        ("N 1 1 3 100 1 1 1 > N 0 1 100 0", "customer 3 is not 1 to 2"),
-        ("N 1 1 1 0 1 1 1 > N 0 1 100 0", "date 0 is not 1 to 6342969600"),
-        ("N 1 1 1 1 > N 0 1 100 0", "number of lines 0 is not 1 to 15"),
-        ("N 1 1 1 1 1 1 > N 0 1 100 0", "number of lines 0 is not 1 to 15"),
-        ("N 1 1 1 1 1 1 1 1 > N 0 1 100 0", "the request has no form"),
-        ("N 1 1 > N 0 1 100 0", "the request has no form"),
-        ("N 1 1 1 1 6 1 1 > N 0 1 100 0", "item 6 is not 1 to 5"),
-        ("N 1 1 1 1 4 1 1 > N 0 1 100 0", "price of item 4: 0 is not 1 to 99999"),
-        ("N 1 1 1 1 1 2 1 > N 0 1 100 0", "supplying warehouse 2 is not 1 to 1"),
-        ("N 1 1 1 1 1 1 11 > N 0 1 100 0", "quantity 11 is not 1 to 10"),
-        ("N 1 1 1 1 1 1 01 > N 0 1 100 0", "\"01\" is not a number"),
-        ("N 1 1 1 1 1 1 99999999999999999999 > N 0 1 100 0", "\"99999999999999999999\" is not a number"),
-        ("N 1 1 1 1 1 1 1 > N 0 1 100", "the answer has 3 numbers and not 4"),
-        ("N 1 1 1 1 1 1 1 > N 0 x 100 0", "\"x\" is not a number"),
-        ("N 1 1 1 1 1 1 1 > P 0 1 100", "the answer is none to this request"),
-        ("N 1 1 1 1 1 1 1 > N", "the answer is none to this request"),
-        ("P 1 1 1 1 =BERG 201 500 > P 0 2 -500", "nobody has the last name \"BERG\""),
-        ("P 1 1 1 1 =ABCDEFGHIJKLMNOPQ 201 500 > P 0 2 -500", "nobody has the last name \"ABCDEFGHIJKLMNOPQ\""),
-        ("P 1 1 1 1 2 201 500 > P 0 2 -500", "the request has no form"),
-        ("P 1 1 1 1 #-1 201 500 > P 0 2 -500", "customer -1 is not 1 to 2"),
-        ("P 1 1 2 1 #1 201 500 > P 0 2 -500", "warehouse of the customer 2 is not 1 to 1"),
-        ("P 1 1 1 0 #1 201 500 > P 0 2 -500", "district of the customer 0 is not 1 to 10"),
-        ("P 1 1 1 1 #1 201 9223372036854775807 > P 0 2 -500", "amount 9223372036854775807 is not 100 to 500000"),
-        ("D 2 1 1 > D 0 10 0 0 0 0 0 0 0 0 0 0", "warehouse 2 is not 1 to 1"),
-        ("D 1 11 1 > D 0 10 0 0 0 0 0 0 0 0 0 0", "carrier 11 is not 1 to 10"),
-        ("Q -1 1 1 > Q 0 0", "warehouse -1 is not 0 to 9999999999"),
-        ("R 1 > R 0 1 1 1 1 10 0 0 0 0 0 0 0 0 0 0", "no Delivery waits"),
-        ("S 1 1 #1 > S 0 1 0 0 0 0", "\"S\" is no request that is recorded"),
-        ("\u{e9} 1 > \u{e9} 0", "\"\\xc3\\xa9\" is no request that is recorded"),
-        (" > ", "the answer is none to this request"),
-    ];
-    for (line, why) in wrong {
+    for (line, why) in NONSENSE {
         let two = [records(&["Q 1 1 1 > Q 0 0", "R 2 > R 0 1 1 1 2 10 0 0 0 0 0 0 0 0 0 0"]), records(&[line])].concat();
         assert_eq!(said(&book, &two, &book), format!("record 3: {why}"), "{line}");
     }
+}
+
+#[test]
+fn more_than_there_is_room_for_is_an_error() {
+    let book = paper();
     let too_many = [
         ("N 1 1 1 1 1 1 1 > N 0 1 104 0", 5, "number of the order 5 is not 1 to 4"),
         ("P 1 1 1 1 #1 1 100 > P 0 1 -100", 9, "number of the payment 9 is not 1 to 8"),
