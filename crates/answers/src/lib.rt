@@ -1,9 +1,11 @@
 // Answers written as the program prints them: a letter, numbers each after a tab, byte 10.
+#![tactic(auto)]
+
 ghost use Rattle.std.specs.Prelude.{[], ◌∷◌, ◌+◌, ◌*◌, ◌≤◌, pos, length};
 ghost use Rattle.model.specs.Text.{signeds, positives, tabbed, text_of};
-ghost use Rattle.model.specs.AnswerLine.{noFormLine};
+ghost use Rattle.model.specs.AnswerLine.{no_form_line};
 ghost use Rattle.text.specs.Writing.{Wrote};
-ghost use Rattle.answers.specs.Writing.{Answered, outcomeLine, hasRoom};
+ghost use Rattle.answers.specs.Writing.{Answered, outcome_line, has_room};
 ghost use Rattle.model.specs.declared.RequestOutcome.TheVariants as RequestCase;
 
 use model::{
@@ -80,7 +82,7 @@ fn status_line(line: &mut [u8], f: StatusFigures, shown: &[i64]) -> usize
 // New-Order's answer.
 fn tell_new_order(line: &mut [u8], o: NewOrderOutcome) -> usize
     requires { 2048 ≤ length line.old }
-    ensures { Wrote line.old line.new 0 result (outcomeLine (RequestCase.NewOrder o) [] []) × (result ≤ 2048) }
+    ensures { Wrote line.old line.new 0 result (outcome_line (RequestCase.NewOrder o) [] []) × (result ≤ 2048) }
 {
     match o {
         NewOrderOutcome::Committed(f) => text::three_line(line, 78, 0, f.order, f.total),
@@ -91,7 +93,7 @@ fn tell_new_order(line: &mut [u8], o: NewOrderOutcome) -> usize
 // Payment's answer.
 fn tell_payment(line: &mut [u8], o: PaymentOutcome) -> usize
     requires { 2048 ≤ length line.old }
-    ensures { Wrote line.old line.new 0 result (outcomeLine (RequestCase.Payment o) [] []) × (result ≤ 2048) }
+    ensures { Wrote line.old line.new 0 result (outcome_line (RequestCase.Payment o) [] []) × (result ≤ 2048) }
 {
     match o {
         PaymentOutcome::Committed(f) => payment_line(line, f.customer, f.balance),
@@ -102,7 +104,7 @@ fn tell_payment(line: &mut [u8], o: PaymentOutcome) -> usize
 // Delivery's answer.
 fn tell_delivery(line: &mut [u8], o: DeliveryOutcome, orders: [u64; 10]) -> usize
     requires { 2048 ≤ length line.old }
-    ensures { Wrote line.old line.new 0 result (outcomeLine (RequestCase.Delivery o) orders []) × (result ≤ 2048) }
+    ensures { Wrote line.old line.new 0 result (outcome_line (RequestCase.Delivery o) orders []) × (result ≤ 2048) }
 {
     match o {
         DeliveryOutcome::Committed(f) => delivery_line(line, f.skipped, orders),
@@ -113,7 +115,7 @@ fn tell_delivery(line: &mut [u8], o: DeliveryOutcome, orders: [u64; 10]) -> usiz
 // Order-Status's answer.
 fn tell_order_status(line: &mut [u8], o: StatusOutcome, shown: &[i64]) -> usize
     requires { (2048 ≤ length line.old) × (length shown.now ≤ 75) }
-    ensures { Wrote line.old line.new 0 result (outcomeLine (RequestCase.OrderStatus o) [] shown.now) × (result ≤ 2048) }
+    ensures { Wrote line.old line.new 0 result (outcome_line (RequestCase.OrderStatus o) [] shown.now) × (result ≤ 2048) }
 {
     match o {
         StatusOutcome::Committed(f) => status_line(line, f, shown),
@@ -124,7 +126,7 @@ fn tell_order_status(line: &mut [u8], o: StatusOutcome, shown: &[i64]) -> usize
 // Stock-Level's answer.
 fn tell_stock_level(line: &mut [u8], o: StockLevelOutcome) -> usize
     requires { 2048 ≤ length line.old }
-    ensures { Wrote line.old line.new 0 result (outcomeLine (RequestCase.StockLevel o) [] []) × (result ≤ 2048) }
+    ensures { Wrote line.old line.new 0 result (outcome_line (RequestCase.StockLevel o) [] []) × (result ≤ 2048) }
 {
     match o {
         StockLevelOutcome::Committed(f) => two_line(line, 76, 0, f.count),
@@ -135,7 +137,7 @@ fn tell_stock_level(line: &mut [u8], o: StockLevelOutcome) -> usize
 // The answer to a request of any kind.
 fn tell(line: &mut [u8], o: RequestOutcome, orders: [u64; 10], shown: &[i64]) -> usize
     requires { (2048 ≤ length line.old) × (length shown.now ≤ 75) }
-    ensures { Wrote line.old line.new 0 result (outcomeLine o orders shown.now) × (result ≤ 2048) }
+    ensures { Wrote line.old line.new 0 result (outcome_line o orders shown.now) × (result ≤ 2048) }
 {
     match o {
         RequestOutcome::NewOrder(a) => tell_new_order(line, a),
@@ -148,7 +150,7 @@ fn tell(line: &mut [u8], o: RequestOutcome, orders: [u64; 10], shown: &[i64]) ->
 
 // The line of an answer written to the front of a buffer of at least 2,048 bytes; its length, or 0 where there is no room.
 pub fn write_answer(buffer: &mut [u8], o: RequestOutcome, orders: [u64; 10], shown: &[i64]) -> usize
-    ensures { Answered (hasRoom buffer.old shown.now) (outcomeLine o orders shown.now)
+    ensures { Answered (has_room buffer.old shown.now) (outcome_line o orders shown.now)
         buffer.old buffer.new result }
 {
     if buffer.len() < 2048 {
@@ -162,7 +164,7 @@ pub fn write_answer(buffer: &mut [u8], o: RequestOutcome, orders: [u64; 10], sho
 
 // The line that a line without a form is answered.
 pub fn write_no_form(buffer: &mut [u8]) -> usize
-    ensures { Answered (hasRoom buffer.old []) noFormLine buffer.old buffer.new result }
+    ensures { Answered (has_room buffer.old []) no_form_line buffer.old buffer.new result }
 {
     if buffer.len() < 2048 {
         return 0;

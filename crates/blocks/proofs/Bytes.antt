@@ -10,25 +10,25 @@ use lib.Dec.{eqb}
 use lib.ListN.{length, get_or, take, drop, set, length-drop}
 use lib.Seq.{length-take-le, take-suc, take-add, get_or-drop, take-suc-set}
 use borrow.Author.Tests.{lt-ltb, le-ltb, eq-eqb, ne_eqb}
-use Rattle.blocks.specs.Cutting.{kept, linesIn, lineAfter, between, Started, CutOff}
+use Rattle.blocks.specs.Cutting.{kept, lines_in, line_after, between, Started, CutOff}
 
 -- ── two blocks in turn ──
-pub lines-append : (xs ys p : List ℕ) → linesIn p (xs ++ ys) ≡ linesIn p xs ++ linesIn (lineAfter p xs) ys
-unfolding linesIn lineAfter
-lines-append [] ys p = refl
-lines-append (x ∷ xs) ys p = rw (lines-append xs ys [], lines-append xs ys (kept p x)) (go (eqb x 10))
+pub lines_append : (xs ys p : List ℕ) → lines_in p (xs ++ ys) ≡ lines_in p xs ++ lines_in (line_after p xs) ys
+unfolding lines_in line_after
+lines_append [] ys p = refl
+lines_append (x ∷ xs) ys p = rw (lines_append xs ys [], lines_append xs ys (kept p x)) (go (eqb x 10))
   where
-    go : (t : Bool) → cond t (kept p x ∷ linesIn [] xs ++ linesIn (lineAfter [] xs) ys) (linesIn (kept p x) xs ++ linesIn (lineAfter (kept p x) xs) ys)
-        ≡ cond t (kept p x ∷ linesIn [] xs) (linesIn (kept p x) xs) ++ linesIn (cond t (lineAfter [] xs) (lineAfter (kept p x) xs)) ys
+    go : (t : Bool) → cond t (kept p x ∷ lines_in [] xs ++ lines_in (line_after [] xs) ys) (lines_in (kept p x) xs ++ lines_in (line_after (kept p x) xs) ys)
+        ≡ cond t (kept p x ∷ lines_in [] xs) (lines_in (kept p x) xs) ++ lines_in (cond t (line_after [] xs) (line_after (kept p x) xs)) ys
     go true = refl
     go false = refl
 
-pub line-append : (xs ys p : List ℕ) → lineAfter p (xs ++ ys) ≡ lineAfter (lineAfter p xs) ys
-unfolding lineAfter
-line-append [] ys p = refl
-line-append (x ∷ xs) ys p = rw (line-append xs ys [], line-append xs ys (kept p x)) (go (eqb x 10))
+pub line_append : (xs ys p : List ℕ) → line_after p (xs ++ ys) ≡ line_after (line_after p xs) ys
+unfolding line_after
+line_append [] ys p = refl
+line_append (x ∷ xs) ys p = rw (line_append xs ys [], line_append xs ys (kept p x)) (go (eqb x 10))
   where
-    go : (t : Bool) → cond t (lineAfter (lineAfter [] xs) ys) (lineAfter (lineAfter (kept p x) xs) ys) ≡ lineAfter (cond t (lineAfter [] xs) (lineAfter (kept p x) xs)) ys
+    go : (t : Bool) → cond t (line_after (line_after [] xs) ys) (line_after (line_after (kept p x) xs) ys) ≡ line_after (cond t (line_after [] xs) (line_after (kept p x) xs)) ys
     go true = refl
     go false = refl
 
@@ -56,8 +56,8 @@ pub record Unended (p block : List ℕ) (at : ℕ) (line : List ℕ) (n i : ℕ)
   pub short : n ≤ 1024
   pub onward : at ≤ i
   pub place : i ≤ length block
-  pub lines : linesIn p (between block at i) ≡ []
-  pub rest : lineAfter p (between block at i) ≡ take n line
+  pub lines : lines_in p (between block at i) ≡ []
+  pub rest : line_after p (between block at i) ≡ take n line
 
 between-suc : (block : List ℕ) (at i : ℕ) → at ≤ i → i < length block → between block at (i + 1) ≡ between block at i ++ (get_or block i 0 ∷ [])
 between-suc block at i h k =
@@ -70,41 +70,41 @@ not_so e = absurd (let q : ◌≡◌ {A = ℕ} 0 1 = cc in omega arith)
 
 module _ (p block : List ℕ) (at : ℕ) (line line' : List ℕ) (n n' i : ℕ) (u : Unended p block at line n i) (h : i < length block)
     (k : take n' line' ≡ kept (take n line) (get_or block i 0)) (short : n' ≤ 1024) where
-  byte-lines : linesIn p (between block at (i + 1)) ≡ cond (eqb (get_or block i 0) 10) (take n' line' ∷ []) []
-  unfolding linesIn
-  byte-lines = rw (between-suc block at i u.onward h, lines-append (between block at i) (get_or block i 0 ∷ []) p, u.lines, u.rest, k)
+  byte_lines : lines_in p (between block at (i + 1)) ≡ cond (eqb (get_or block i 0) 10) (take n' line' ∷ []) []
+  unfolding lines_in
+  byte_lines = rw (between-suc block at i u.onward h, lines_append (between block at i) (get_or block i 0 ∷ []) p, u.lines, u.rest, k)
 
-  byte-rest : lineAfter p (between block at (i + 1)) ≡ cond (eqb (get_or block i 0) 10) [] (take n' line')
-  unfolding lineAfter
-  byte-rest = rw (between-suc block at i u.onward h, line-append (between block at i) (get_or block i 0 ∷ []) p, u.rest, k)
+  byte_rest : line_after p (between block at (i + 1)) ≡ cond (eqb (get_or block i 0) 10) [] (take n' line')
+  unfolding line_after
+  byte_rest = rw (between-suc block at i u.onward h, line_append (between block at i) (get_or block i 0 ∷ []) p, u.rest, k)
 
-  pub byte-ends : get_or block i 0 ≡ 10 → CutOff p block at line' n' (i + 1) true
-  byte-ends e =
+  pub byte_ends : get_or block i 0 ≡ 10 → CutOff p block at line' n' (i + 1) true
+  byte_ends e =
       let t : eqb (get_or block i 0) 10 ≡ true = eq-eqb (get_or block i 0) 10 e in
       record {
         short = short;
         place = omega arith;
         onward = omega (arith, u.onward);
-        lines = byte-lines ∙ rw t;
-        rest = byte-rest ∙ rw t;
+        lines = byte_lines ∙ rw t;
+        rest = byte_rest ∙ rw t;
         whole = not_so;
       }
 
-  pub byte-goes : (get_or block i 0 ≡ 10 → ⊥) → length line' ≡ 1024 → Unended p block at line' n' (i + 1)
-  byte-goes e room =
+  pub byte_goes : (get_or block i 0 ≡ 10 → ⊥) → length line' ≡ 1024 → Unended p block at line' n' (i + 1)
+  byte_goes e room =
       let t : eqb (get_or block i 0) 10 ≡ false = ne_eqb (get_or block i 0) 10 e in
       record {
         room = room;
         short = short;
         onward = omega (arith, u.onward);
         place = omega arith;
-        lines = byte-lines ∙ rw t;
-        rest = byte-rest ∙ rw t;
+        lines = byte_lines ∙ rw t;
+        rest = byte_rest ∙ rw t;
       }
 
 -- before a byte, and at the block's end
 pub none-taken : (line : List ℕ) (len : ℕ) (block : List ℕ) (at : ℕ) → Started line len block at → Unended (take len line) block at line len at
-unfolding linesIn lineAfter
+unfolding lines_in line_after
 none-taken line len block at o =
     let e : at - at ≡ 0 = omega arith in
     record { room = o.room; short = o.short; onward = omega arith; place = o.place; lines = rw e; rest = rw e }

@@ -7,14 +7,14 @@ abbrev pub kept : List ℕ → ℕ → List ℕ
 kept p x = cond (ltb (length p) 1024) (p ++ (x ∷ [])) p
 
 -- the lines that bytes end, given the line so far
-unfoldable pub linesIn : List ℕ → List ℕ → List (List ℕ)
-linesIn p [] = []
-linesIn p (x ∷ xs) = cond (eqb x 10) (kept p x ∷ linesIn [] xs) (linesIn (kept p x) xs)
+unfoldable pub lines_in : List ℕ → List ℕ → List (List ℕ)
+lines_in p [] = []
+lines_in p (x ∷ xs) = cond (eqb x 10) (kept p x ∷ lines_in [] xs) (lines_in (kept p x) xs)
 
 -- the line so far after bytes
-unfoldable pub lineAfter : List ℕ → List ℕ → List ℕ
-lineAfter p [] = p
-lineAfter p (x ∷ xs) = cond (eqb x 10) (lineAfter [] xs) (lineAfter (kept p x) xs)
+unfoldable pub line_after : List ℕ → List ℕ → List ℕ
+line_after p [] = p
+line_after p (x ∷ xs) = cond (eqb x 10) (line_after [] xs) (line_after (kept p x) xs)
 
 -- the bytes of a block from one place up to another
 abbrev pub between : List ℕ → ℕ → ℕ → List ℕ
@@ -31,6 +31,6 @@ pub record CutOff (p block : List ℕ) (at : ℕ) (line : List ℕ) (len next : 
   pub short : len ≤ 1024
   pub place : next ≤ length block
   pub onward : at + cond ended 1 0 ≤ next
-  pub lines : linesIn p (between block at next) ≡ cond ended (take len line ∷ []) []
-  pub rest : lineAfter p (between block at next) ≡ cond ended [] (take len line)
+  pub lines : lines_in p (between block at next) ≡ cond ended (take len line ∷ []) []
+  pub rest : line_after p (between block at next) ≡ cond ended [] (take len line)
   pub whole : ended ≡ false → next ≡ length block

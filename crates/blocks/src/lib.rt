@@ -1,4 +1,6 @@
 // A block of input cut into lines.
+#![tactic(auto)]
+
 ghost use Rattle.std.specs.Prelude.{◌≡◌, ◌≤◌, length, take};
 ghost use Rattle.blocks.specs.Cutting.{kept, Started, CutOff};
 

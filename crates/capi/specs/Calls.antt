@@ -13,72 +13,72 @@ use Rattle.model.specs.declared.OrderStatus.{OrderStatus}
 use Rattle.model.specs.declared.StockLevel.{StockLevel}
 use Rattle.model.specs.declared.ReadAnswer.{ReadAnswer}
 use Rattle.model.specs.Names.{Who}
-use Rattle.model.specs.Opening.{openingAnswer}
-use Rattle.model.specs.NewOrder.{newOrderAnswer, newOrderBook, newOrderLast}
-use Rattle.model.specs.Payment.{paymentAnswer, paymentBook, paymentNotes}
-use Rattle.model.specs.Delivery.{deliveryAnswer, deliveryOrders, deliveryBook}
-use Rattle.model.specs.Queue.{queueAnswer, queueAfter, runAnswer, runOrders, runBook, runQueue, runBuffer}
-use Rattle.model.specs.OrderStatus.{statusAnswer, statusPart}
-use Rattle.model.specs.StockLevel.{stockLevelAnswer}
+use Rattle.model.specs.Opening.{opening_answer}
+use Rattle.model.specs.NewOrder.{new_order_answer, new_order_book, new_order_last}
+use Rattle.model.specs.Payment.{payment_answer, payment_book, payment_notes}
+use Rattle.model.specs.Delivery.{delivery_answer, delivery_orders, delivery_book}
+use Rattle.model.specs.Queue.{queue_answer, queue_after, run_answer, run_orders, run_book, run_queue, run_buffer}
+use Rattle.model.specs.OrderStatus.{status_answer, status_part}
+use Rattle.model.specs.StockLevel.{stock_level_answer}
 use Rattle.model.specs.Request.{Request, lines_of}
-use Rattle.model.specs.RequestLine.{writeAnswer, writeBuffer}
-use Rattle.flat.specs.Flat.{bareOut, oneOut, twoOut, threeOut, balanceOut, statusOut}
-use Rattle.flat.specs.FlatLines.{readOut}
+use Rattle.model.specs.RequestLine.{write_answer, write_buffer}
+use Rattle.flat.specs.Flat.{bare_out, one_out, two_out, three_out, balance_out, status_out}
+use Rattle.flat.specs.FlatLines.{read_out}
 use Rattle.places.specs.declared.Spot.{Spot}
-use Rattle.places.specs.Places.{placesOut}
+use Rattle.places.specs.Places.{places_out}
 
 pub record OpeningC (b : List ℤ) (names : List ℕ) (topup : List ℤ) (out : List ℕ) : Type 0 where
-  pub answers : out ≡ bareOut (openingAnswer b names topup)
+  pub answers : out ≡ bare_out (opening_answer b names topup)
 
 pub record NewOrderC (b : List ℤ) (names : List ℕ) (last topup : List ℤ) (q : NewOrder) (lines : List Line) (out : List ℕ) (left noted : List ℤ) : Type 0 where
-  pub answers : out ≡ threeOut (newOrderAnswer b names last topup q lines)
-  pub leaves : left ≡ newOrderBook b names last topup q lines
-  pub notes : noted ≡ newOrderLast b names last topup q lines
+  pub answers : out ≡ three_out (new_order_answer b names last topup q lines)
+  pub leaves : left ≡ new_order_book b names last topup q lines
+  pub notes : noted ≡ new_order_last b names last topup q lines
 
 pub record PaymentC (b : List ℤ) (names notes : List ℕ) (q : Payment) (who : Who) (out : List ℕ) (balance left : List ℤ) (written : List ℕ) : Type 0 where
-  pub answers : out ≡ oneOut (paymentAnswer b names notes q who)
-  pub balances : balance ≡ balanceOut (paymentAnswer b names notes q who)
-  pub leaves : left ≡ paymentBook b names notes q who
-  pub writes : written ≡ paymentNotes b names notes q who
+  pub answers : out ≡ one_out (payment_answer b names notes q who)
+  pub balances : balance ≡ balance_out (payment_answer b names notes q who)
+  pub leaves : left ≡ payment_book b names notes q who
+  pub writes : written ≡ payment_notes b names notes q who
 
 pub record DeliveryC (b : List ℤ) (names : List ℕ) (q : Delivery) (out orders : List ℕ) (left : List ℤ) : Type 0 where
-  pub answers : out ≡ twoOut (deliveryAnswer b names q)
-  pub numbers : orders ≡ deliveryOrders b names q
-  pub leaves : left ≡ deliveryBook b names q
+  pub answers : out ≡ two_out (delivery_answer b names q)
+  pub numbers : orders ≡ delivery_orders b names q
+  pub leaves : left ≡ delivery_book b names q
 
 -- kept: the waiting list as the call leaves it
 pub record QueueC (q : Queue) (x : Waiting) (out : List ℕ) (kept : Queue) : Type 0 where
-  pub answers : out ≡ oneOut (queueAnswer q x)
-  pub keeps : kept ≡ queueAfter q x
+  pub answers : out ≡ one_out (queue_answer q x)
+  pub keeps : kept ≡ queue_after q x
 
 -- written: the buffer as the run leaves it
 pub record RunC (b : List ℤ) (names : List ℕ) (q : Queue) (date : ℕ) (buffer out orders : List ℕ) (left : List ℤ) (kept : Queue) (written : List ℕ) : Type 0 where
-  pub answers : out ≡ twoOut (runAnswer b names q date buffer)
-  pub numbers : orders ≡ runOrders b names q date buffer
-  pub leaves : left ≡ runBook b names q date buffer
-  pub keeps : kept ≡ runQueue q buffer
-  pub writes : written ≡ runBuffer b names q date buffer
+  pub answers : out ≡ two_out (run_answer b names q date buffer)
+  pub numbers : orders ≡ run_orders b names q date buffer
+  pub leaves : left ≡ run_book b names q date buffer
+  pub keeps : kept ≡ run_queue q buffer
+  pub writes : written ≡ run_buffer b names q date buffer
 
 -- the last two numbers name the part of the book that is shown, which lies in the book
 pub record StatusC (b : List ℤ) (names : List ℕ) (last : List ℤ) (q : OrderStatus) (who : Who) (out : List ℕ) (balance : List ℤ) : Type 0 where
-  pub answers : out ≡ statusOut (statusAnswer b names last q who) (statusPart b names last q who)
-  pub balances : balance ≡ balanceOut (statusAnswer b names last q who)
+  pub answers : out ≡ status_out (status_answer b names last q who) (status_part b names last q who)
+  pub balances : balance ≡ balance_out (status_answer b names last q who)
   pub within : get_or out 6 0 + get_or out 7 0 ≤ length b
 
 pub record StockLevelC (b : List ℤ) (names : List ℕ) (q : StockLevel) (out : List ℕ) : Type 0 where
-  pub answers : out ≡ oneOut (stockLevelAnswer b names q)
+  pub answers : out ≡ one_out (stock_level_answer b names q)
 
 -- what reading answers, in numbers, and the lines and the last name beside it
 pub record ReadC (r : ReadAnswer) (out : List ℕ) (lines : List Line) (name : List ℕ) : Type 0 where
-  pub answers : out ≡ readOut r.outcome r.lines.count r.name.length
+  pub answers : out ≡ read_out r.outcome r.lines.count r.name.length
   pub lines_are : lines ≡ lines_of r.lines.items r.lines.supplies r.lines.quantities
-  pub name-is : name ≡ r.name.bytes
+  pub name_is : name ≡ r.name.bytes
 
 -- a request's line written to the front of a buffer
 pub record WriteC (buffer : List ℕ) (r : Request) (out left : List ℕ) : Type 0 where
-  pub answers : out ≡ oneOut (writeAnswer buffer r)
-  pub leaves : left ≡ writeBuffer buffer r
+  pub answers : out ≡ one_out (write_answer buffer r)
+  pub leaves : left ≡ write_buffer buffer r
 
 -- the places in a book of sizes d
 pub record PlacesC (d : Dims) (s : Spot) (out : List ℕ) : Type 0 where
-  pub answers : out ≡ placesOut d s
+  pub answers : out ≡ places_out d s

@@ -1,12 +1,14 @@
 // The calls for C and Rust: slices as pointer and length, answers as flat numbers that the caller lends.
+#![tactic(auto)]
+
 ghost use Rattle.std.specs.Prelude.{◌≡◌, List, []};
-ghost use Rattle.model.specs.Names.{whoOf};
-ghost use Rattle.flat.specs.Flat.{selectionOf, newOrderOf, paymentOf, deliveryOf, waitingOf, statusOf, stockLevelOf};
+ghost use Rattle.model.specs.Names.{who_of};
+ghost use Rattle.flat.specs.Flat.{selection_of, new_order_of, payment_of, delivery_of, waiting_of, status_of, stock_level_of};
 ghost use Rattle.model.specs.declared.Line.{Line};
-ghost use Rattle.model.specs.Request.{requestOf, newOrder, payment, delivery, orderStatus, stockLevel};
-ghost use Rattle.model.specs.RequestLine.{readLine, stored};
+ghost use Rattle.model.specs.Request.{request_of, new_order, payment, delivery, order_status, stock_level};
+ghost use Rattle.model.specs.RequestLine.{read_line, stored};
 ghost use Rattle.records.specs.Gathered.{Gathered};
-ghost use Rattle.places.specs.Places.{dimsOf, spot_of};
+ghost use Rattle.places.specs.Places.{dims_of, spot_of};
 ghost use Rattle.capi.specs.Calls.{OpeningC, NewOrderC, PaymentC, DeliveryC, QueueC, RunC, StatusC, StockLevelC, ReadC, WriteC, PlacesC};
 
 use model::{
@@ -47,7 +49,7 @@ pub extern "C" fn book_new_order(
     out: &mut [u64; 5],
 )
     ensures { NewOrderC nums.old names.now last.old topup.now
-        (newOrderOf warehouse district customer date) lines.now
+        (new_order_of warehouse district customer date) lines.now
         out.new nums.new last.new }
 {
     let q = NewOrder {
@@ -78,8 +80,8 @@ pub extern "C" fn book_payment(
     out: &mut [u64; 3],
     balance: &mut [i64; 1],
 )
-    ensures { PaymentC nums.old names.now notes.old (paymentOf warehouse district custwarehouse custdistrict date amount)
-        (whoOf (selectionOf named number) name.now) out.new balance.new nums.new notes.new }
+    ensures { PaymentC nums.old names.now notes.old (payment_of warehouse district custwarehouse custdistrict date amount)
+        (who_of (selection_of named number) name.now) out.new balance.new nums.new notes.new }
 {
     let q = Payment {
         warehouse,
@@ -107,7 +109,7 @@ pub extern "C" fn book_delivery(
     out: &mut [u64; 4],
     orders: &mut [u64; 10],
 )
-    ensures { DeliveryC nums.old names.now (deliveryOf warehouse carrier date)
+    ensures { DeliveryC nums.old names.now (delivery_of warehouse carrier date)
         out.new orders.new nums.new }
 {
     let q = Delivery {
@@ -128,7 +130,7 @@ pub extern "C" fn book_queue_delivery(
     date: u64,
     out: &mut [u64; 3],
 )
-    ensures { QueueC queue.old (waitingOf warehouse carrier date) out.new queue.new }
+    ensures { QueueC queue.old (waiting_of warehouse carrier date) out.new queue.new }
 {
     let x = Waiting {
         date,
@@ -172,7 +174,7 @@ pub extern "C" fn book_order_status(
     out: &mut [u64; 8],
     balance: &mut [i64; 1],
 )
-    ensures { StatusC nums.now names.now last.now (statusOf warehouse district) (whoOf (selectionOf named number) name.now)
+    ensures { StatusC nums.now names.now last.now (status_of warehouse district) (who_of (selection_of named number) name.now)
         out.new balance.new }
 {
     let q = OrderStatus {
@@ -197,7 +199,7 @@ pub extern "C" fn book_stock_level(
     threshold: u64,
     out: &mut [u64; 3],
 )
-    ensures { StockLevelC nums.now names.now (stockLevelOf warehouse district threshold) out.new }
+    ensures { StockLevelC nums.now names.now (stock_level_of warehouse district threshold) out.new }
 {
     let q = StockLevel {
         warehouse,
@@ -211,7 +213,7 @@ pub extern "C" fn book_stock_level(
 
 // A request line read, but for the order's lines, which it returns.
 fn read_beside(line: &[u8], out: &mut [u64; 13], name: &mut [u8; 16]) -> [Line; 15]
-    ensures { ReadC (stored (readLine line.now)) out.new result name.new }
+    ensures { ReadC (stored (read_line line.now)) out.new result name.new }
 {
     let a = lines::read_line(line);
     let o = a.outcome;
@@ -231,7 +233,7 @@ pub extern "C" fn book_read_line(
     lines: &mut [Line; 15],
     name: &mut [u8; 16],
 )
-    ensures { ReadC (stored (readLine line.now)) out.new lines.new name.new }
+    ensures { ReadC (stored (read_line line.now)) out.new lines.new name.new }
 {
     let ls = read_beside(line, out, name);
     *lines = ls;
@@ -239,7 +241,7 @@ pub extern "C" fn book_read_line(
 
 // A New-Order's line written, its lines gathered in arrays; more than 15 lines have no form.
 fn write_order(buffer: &mut [u8], q: NewOrder, l: Lines, out: &mut [u64; 3])
-    ensures { (lines : List Line) → Gathered lines l → WriteC buffer.old (newOrder q lines) out.new buffer.new }
+    ensures { (lines : List Line) → Gathered lines l → WriteC buffer.old (new_order q lines) out.new buffer.new }
 {
     let count = l.count;
     if 15 < count {
@@ -277,7 +279,7 @@ pub extern "C" fn book_write_new_order(
     lines: &[Line],
     out: &mut [u64; 3],
 )
-    ensures { WriteC buffer.old (newOrder (newOrderOf warehouse district customer date) lines.now)
+    ensures { WriteC buffer.old (new_order (new_order_of warehouse district customer date) lines.now)
         out.new buffer.new }
 {
     let q = NewOrder {
@@ -293,7 +295,7 @@ pub extern "C" fn book_write_new_order(
 // A request without lines written: its form, and the last name beside it.
 fn write_bare(buffer: &mut [u8], form: Form, name: &[u8]) -> [u64; 3]
     ensures { WriteC buffer.old
-        (requestOf form [] name.now)
+        (request_of form [] name.now)
         result buffer.new }
 {
     let none = [0u64; 1];
@@ -319,7 +321,7 @@ pub extern "C" fn book_write_payment(
     out: &mut [u64; 3],
 )
     ensures { WriteC buffer.old
-        (payment (paymentOf warehouse district custwarehouse custdistrict date amount) (whoOf (selectionOf named number) name.now))
+        (payment (payment_of warehouse district custwarehouse custdistrict date amount) (who_of (selection_of named number) name.now))
         out.new buffer.new }
 {
     let q = Payment {
@@ -345,7 +347,7 @@ pub extern "C" fn book_write_delivery(
     out: &mut [u64; 3],
 )
     ensures { WriteC buffer.old
-        (delivery (deliveryOf warehouse carrier date))
+        (delivery (delivery_of warehouse carrier date))
         out.new buffer.new }
 {
     let form = Form::Delivery(Delivery {
@@ -369,7 +371,7 @@ pub extern "C" fn book_write_order_status(
     out: &mut [u64; 3],
 )
     ensures { WriteC buffer.old
-        (orderStatus (statusOf warehouse district) (whoOf (selectionOf named number) name.now))
+        (order_status (status_of warehouse district) (who_of (selection_of named number) name.now))
         out.new buffer.new }
 {
     let q = OrderStatus {
@@ -391,7 +393,7 @@ pub extern "C" fn book_write_stock_level(
     out: &mut [u64; 3],
 )
     ensures { WriteC buffer.old
-        (stockLevel (stockLevelOf warehouse district threshold))
+        (stock_level (stock_level_of warehouse district threshold))
         out.new buffer.new }
 {
     let form = Form::StockLevel(StockLevel {
@@ -419,7 +421,7 @@ pub extern "C" fn book_places(
     history: u64,
     out: &mut [u64; 12],
 )
-    ensures { PlacesC (dimsOf warehouses customers items orders histories) (spot_of warehouse district customer item order history)
+    ensures { PlacesC (dims_of warehouses customers items orders histories) (spot_of warehouse district customer item order history)
         out.new }
 {
     let d = model::Dims {

@@ -7,8 +7,8 @@ abbrev pub below : ℕ → Bool
 below a = ltb a (2 ^ 63)
 
 -- an or is below 2 ^ 63 just where both are
-pub or-below : (a b : ℕ) → below (bit_or a b) ≡ (below a && below b)
-or-below a b = go (below a) (below b) refl refl
+pub or_below : (a b : ℕ) → below (bit_or a b) ≡ (below a && below b)
+or_below a b = go (below a) (below b) refl refl
   where
     go : (s t : Bool) → below a ≡ s → below b ≡ t → below (bit_or a b) ≡ (s && t)
     go true true p q = lt-ltb (bit_or a b) (2 ^ 63) (or_lt 63 a b (ltb-true a (2 ^ 63) p) (ltb-true b (2 ^ 63) q))

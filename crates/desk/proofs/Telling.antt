@@ -25,47 +25,47 @@ use Rattle.model.specs.declared.Refusal.{Refusal}
 use Rattle.model.specs.declared.RequestAnswer.{RequestAnswer}
 use Rattle.model.specs.declared.RequestOutcome.{RequestOutcome}
 use Rattle.model.specs.declared.RequestOutcome.TheVariants as RequestCase
-use Rattle.model.specs.Answer.{Answer, committed, refused, requestSays}
-use Rattle.model.specs.Names.{Who, byNumber, byName, whoOf}
+use Rattle.model.specs.Answer.{Answer, committed, refused, request_says}
+use Rattle.model.specs.Names.{Who, by_number, by_name, who_of}
 use Rattle.model.specs.Head.{dims}
-use Rattle.model.specs.OrderStatus.{emptyPart, part_of, statusFault, statusOrder, linesPart, statusPart}
-use Rattle.model.specs.Request.{Request, newOrder, payment, delivery, orderStatus, stockLevel, Lent, requestOf, lines_of, nameIn, shownPart, shownOf, numsAfter}
-use Rattle.model.specs.RequestLine.{letter, Reading, read, noForm, padTo, items_of, suppliesOf, quantitiesOf, selection, nameOfWho, storedLines, storedName, stored, readLine}
-use Rattle.model.specs.AnswerLine.{printed, told, answerLine, noFormLine, printedFor, leftAfter}
+use Rattle.model.specs.OrderStatus.{empty_part, part_of, status_fault, status_order, lines_part, status_part}
+use Rattle.model.specs.Request.{Request, new_order, payment, delivery, order_status, stock_level, Lent, request_of, lines_of, name_in, shown_part, shown_of, nums_after}
+use Rattle.model.specs.RequestLine.{letter, Reading, read, no_form, pad_to, items_of, supplies_of, quantities_of, selection, name_of_who, stored_lines, stored_name, stored, read_line}
+use Rattle.model.specs.AnswerLine.{printed, told, answer_line, no_form_line, printed_for, left_after}
 use Rattle.model.proofs.RowFacts.{OrderIn}
-use Rattle.model.proofs.StatusFacts.{status-ready}
+use Rattle.model.proofs.StatusFacts.{status_ready}
 use Rattle.engine.specs.Carried.{Carried, lettered}
-use Rattle.answers.specs.Writing.{Answered, sample, outcomeLine, hasRoom, withLine, lengthIf}
+use Rattle.answers.specs.Writing.{Answered, sample, outcome_line, has_room, with_line, length_if}
 use Rattle.answers.proofs.Putting.{room}
 use Rattle.desk.specs.Step.{roomy, Stepped}
 
 -- ── what is printed ──
 printed-kind : (r s : Request) (figures : List ℤ) (orders : List ℕ) (shown : List ℤ) → letter r ≡ letter s → printed r figures orders shown ≡ printed s figures orders shown
-printed-kind (newOrder q lines) (newOrder p ls) figures orders shown e = refl
-printed-kind (newOrder q lines) (payment p wh) figures orders shown e = absurd (omega arith)
-printed-kind (newOrder q lines) (delivery p) figures orders shown e = absurd (omega arith)
-printed-kind (newOrder q lines) (orderStatus p wh) figures orders shown e = absurd (omega arith)
-printed-kind (newOrder q lines) (stockLevel p) figures orders shown e = absurd (omega arith)
-printed-kind (payment q who) (newOrder p ls) figures orders shown e = absurd (omega arith)
+printed-kind (new_order q lines) (new_order p ls) figures orders shown e = refl
+printed-kind (new_order q lines) (payment p wh) figures orders shown e = absurd (omega arith)
+printed-kind (new_order q lines) (delivery p) figures orders shown e = absurd (omega arith)
+printed-kind (new_order q lines) (order_status p wh) figures orders shown e = absurd (omega arith)
+printed-kind (new_order q lines) (stock_level p) figures orders shown e = absurd (omega arith)
+printed-kind (payment q who) (new_order p ls) figures orders shown e = absurd (omega arith)
 printed-kind (payment q who) (payment p wh) figures orders shown e = refl
 printed-kind (payment q who) (delivery p) figures orders shown e = absurd (omega arith)
-printed-kind (payment q who) (orderStatus p wh) figures orders shown e = absurd (omega arith)
-printed-kind (payment q who) (stockLevel p) figures orders shown e = absurd (omega arith)
-printed-kind (delivery q) (newOrder p ls) figures orders shown e = absurd (omega arith)
+printed-kind (payment q who) (order_status p wh) figures orders shown e = absurd (omega arith)
+printed-kind (payment q who) (stock_level p) figures orders shown e = absurd (omega arith)
+printed-kind (delivery q) (new_order p ls) figures orders shown e = absurd (omega arith)
 printed-kind (delivery q) (payment p wh) figures orders shown e = absurd (omega arith)
 printed-kind (delivery q) (delivery p) figures orders shown e = refl
-printed-kind (delivery q) (orderStatus p wh) figures orders shown e = absurd (omega arith)
-printed-kind (delivery q) (stockLevel p) figures orders shown e = absurd (omega arith)
-printed-kind (orderStatus q who) (newOrder p ls) figures orders shown e = absurd (omega arith)
-printed-kind (orderStatus q who) (payment p wh) figures orders shown e = absurd (omega arith)
-printed-kind (orderStatus q who) (delivery p) figures orders shown e = absurd (omega arith)
-printed-kind (orderStatus q who) (orderStatus p wh) figures orders shown e = refl
-printed-kind (orderStatus q who) (stockLevel p) figures orders shown e = absurd (omega arith)
-printed-kind (stockLevel q) (newOrder p ls) figures orders shown e = absurd (omega arith)
-printed-kind (stockLevel q) (payment p wh) figures orders shown e = absurd (omega arith)
-printed-kind (stockLevel q) (delivery p) figures orders shown e = absurd (omega arith)
-printed-kind (stockLevel q) (orderStatus p wh) figures orders shown e = absurd (omega arith)
-printed-kind (stockLevel q) (stockLevel p) figures orders shown e = refl
+printed-kind (delivery q) (order_status p wh) figures orders shown e = absurd (omega arith)
+printed-kind (delivery q) (stock_level p) figures orders shown e = absurd (omega arith)
+printed-kind (order_status q who) (new_order p ls) figures orders shown e = absurd (omega arith)
+printed-kind (order_status q who) (payment p wh) figures orders shown e = absurd (omega arith)
+printed-kind (order_status q who) (delivery p) figures orders shown e = absurd (omega arith)
+printed-kind (order_status q who) (order_status p wh) figures orders shown e = refl
+printed-kind (order_status q who) (stock_level p) figures orders shown e = absurd (omega arith)
+printed-kind (stock_level q) (new_order p ls) figures orders shown e = absurd (omega arith)
+printed-kind (stock_level q) (payment p wh) figures orders shown e = absurd (omega arith)
+printed-kind (stock_level q) (delivery p) figures orders shown e = absurd (omega arith)
+printed-kind (stock_level q) (order_status p wh) figures orders shown e = absurd (omega arith)
+printed-kind (stock_level q) (stock_level p) figures orders shown e = refl
 
 told-kind : (r s : Request) (a : Answer) (orders : List ℕ) (shown : List ℤ) → letter r ≡ letter s → told r a orders shown ≡ told s a orders shown
 told-kind r s (committed figures) orders shown e = ap (λ (zs : List ℤ). pos 0 ∷ zs) (printed-kind r s figures orders shown e)
@@ -79,20 +79,20 @@ sample-letter (RequestCase.OrderStatus o) = refl
 sample-letter (RequestCase.StockLevel o) = refl
 
 -- the shown lines, read in the book left: only a status shows some, and it leaves the book as it is
-shown-left : (s : Lent) (q : Request) (r : RequestAnswer) (left : Lent) → Carried s q r left → part_of r.part left.nums ≡ shownOf s q
-unfolding shownPart numsAfter
-shown-left s (newOrder q lines) r left c = rw c.shows
-shown-left s (payment q who) r left c = rw c.shows
-shown-left s (delivery q) r left c = rw c.shows
-shown-left s (orderStatus q who) r left c = rw (c.shows, c.leaves)
-shown-left s (stockLevel q) r left c = rw c.shows
+shown_left : (s : Lent) (q : Request) (r : RequestAnswer) (left : Lent) → Carried s q r left → part_of r.part left.nums ≡ shown_of s q
+unfolding shown_part nums_after
+shown_left s (new_order q lines) r left c = rw c.shows
+shown_left s (payment q who) r left c = rw c.shows
+shown_left s (delivery q) r left c = rw c.shows
+shown_left s (order_status q who) r left c = rw (c.shows, c.leaves)
+shown_left s (stock_level q) r left c = rw c.shows
 
 -- the line of what a request was answered is the request's
-line-told : (s : Lent) (q : Request) (r : RequestAnswer) (left : Lent) → Carried s q r left → outcomeLine r.outcome r.orders (part_of r.part left.nums) ≡ answerLine s q
-unfolding outcomeLine answerLine
+line-told : (s : Lent) (q : Request) (r : RequestAnswer) (left : Lent) → Carried s q r left → outcome_line r.outcome r.orders (part_of r.part left.nums) ≡ answer_line s q
+unfolding outcome_line answer_line
 line-told s q r left c =
     let k : letter (sample r.outcome) ≡ letter q = sym (sample-letter r.outcome) ∙ c.kind in
-    rw (told-kind (sample r.outcome) q (requestSays r.outcome) r.orders (part_of r.part left.nums) k, k, c.says, c.orders, shown-left s q r left c)
+    rw (told-kind (sample r.outcome) q (request_says r.outcome) r.orders (part_of r.part left.nums) k, k, c.says, c.orders, shown_left s q r left c)
 
 -- ── a status shows at most 15 lines ──
 take-most : (n : ℕ) (zs : List ℤ) → length (take n zs) ≤ n
@@ -100,31 +100,31 @@ take-most zero zs = omega arith
 take-most (suc n) [] = omega arith
 take-most (suc n) (z ∷ zs) = omega (arith, take-most n zs)
 
-lines-most : (d : Dims) (b : List ℤ) (w k o : ℕ) → (o ≢ 0 → OrderIn d b w k o) → (linesPart d b w k o).count ≤ 75
-unfolding linesPart
+lines-most : (d : Dims) (b : List ℤ) (w k o : ℕ) → (o ≢ 0 → OrderIn d b w k o) → (lines_part d b w k o).count ≤ 75
+unfolding lines_part
 lines-most d b w k zero i = omega arith
-lines-most d b w k (suc o) i = mul-le-mul_right 5 (i (λ e. omega arith)).count-high
+lines-most d b w k (suc o) i = mul-le-mul_right 5 (i (λ e. omega arith)).count_high
 
-status-most : (b : List ℤ) (names : List ℕ) (last : List ℤ) (q : OrderStatus) (who : Who) → (statusPart b names last q who).count ≤ 75
-unfolding statusPart
-status-most b names last q who = go (eqb (statusFault b names last q who).number 0) refl
+status_most : (b : List ℤ) (names : List ℕ) (last : List ℤ) (q : OrderStatus) (who : Who) → (status_part b names last q who).count ≤ 75
+unfolding status_part
+status_most b names last q who = go (eqb (status_fault b names last q who).number 0) refl
   where
-    go : (t : Bool) → eqb (statusFault b names last q who).number 0 ≡ t → (cond t (linesPart (dims b) b q.warehouse q.district (statusOrder (dims b) names last q who)) emptyPart).count ≤ 75
-    go true e = lines-most (dims b) b q.warehouse q.district (statusOrder (dims b) names last q who) (status-ready b names last q who (eqb-true _ _ e)).used.order
+    go : (t : Bool) → eqb (status_fault b names last q who).number 0 ≡ t → (cond t (lines_part (dims b) b q.warehouse q.district (status_order (dims b) names last q who)) empty_part).count ≤ 75
+    go true e = lines-most (dims b) b q.warehouse q.district (status_order (dims b) names last q who) (status_ready b names last q who (eqb-true _ _ e)).used.order
     go false e = omega arith
 
-shown-most : (s : Lent) (q : Request) → length (shownOf s q) ≤ 75
-unfolding shownPart
-shown-most s (newOrder q lines) = omega arith
-shown-most s (payment q who) = omega arith
-shown-most s (delivery q) = omega arith
-shown-most s (orderStatus q who) = le_trans (take-most _ _) (status-most s.nums s.names s.last q who)
-shown-most s (stockLevel q) = omega arith
+shown_most : (s : Lent) (q : Request) → length (shown_of s q) ≤ 75
+unfolding shown_part
+shown_most s (new_order q lines) = omega arith
+shown_most s (payment q who) = omega arith
+shown_most s (delivery q) = omega arith
+shown_most s (order_status q who) = le_trans (take-most _ _) (status_most s.nums s.names s.last q who)
+shown_most s (stock_level q) = omega arith
 
 -- ── a reading gives its request back ──
 -- a request as its reading holds it
-abbrev requestIn : Form → Lines → LastName → Request
-requestIn form l n = requestOf form (lines_of (take l.count l.items) (take l.count l.supplies) (take l.count l.quantities)) (nameIn n)
+abbrev request_in_lem : Form → Lines → LastName → Request
+request_in_lem form l n = request_of form (lines_of (take l.count l.items) (take l.count l.supplies) (take l.count l.quantities)) (name_in n)
 
 -- the arrays have the lines and the name that are in use
 pub record Held (l : Lines) (n : LastName) : Type 0 where
@@ -133,7 +133,7 @@ pub record Held (l : Lines) (n : LastName) : Type 0 where
   pub quantities : l.count ≤ length l.quantities
   pub name : n.length ≤ length n.bytes
 
-lines-back : (ls : List Line) → lines_of (items_of ls) (suppliesOf ls) (quantitiesOf ls) ≡ ls
+lines-back : (ls : List Line) → lines_of (items_of ls) (supplies_of ls) (quantities_of ls) ≡ ls
 unfolding lines_of
 lines-back [] = refl
 lines-back (l ∷ ls) = ap (λ (k : List Line). l ∷ k) (lines-back ls)
@@ -142,68 +142,68 @@ items-long : (ls : List Line) → length (items_of ls) ≡ length ls
 items-long [] = refl
 items-long (l ∷ ls) = ap suc (items-long ls)
 
-supplies-long : (ls : List Line) → length (suppliesOf ls) ≡ length ls
+supplies-long : (ls : List Line) → length (supplies_of ls) ≡ length ls
 supplies-long [] = refl
 supplies-long (l ∷ ls) = ap suc (supplies-long ls)
 
-quantities-long : (ls : List Line) → length (quantitiesOf ls) ≡ length ls
+quantities-long : (ls : List Line) → length (quantities_of ls) ≡ length ls
 quantities-long [] = refl
 quantities-long (l ∷ ls) = ap suc (quantities-long ls)
 
-unpadded : (k n : ℕ) (xs : List ℕ) → length xs ≡ n → take n (padTo k xs) ≡ xs
+unpadded : (k n : ℕ) (xs : List ℕ) → length xs ≡ n → take n (pad_to k xs) ≡ xs
 unpadded k n xs e = take_at xs (replicate (k - length xs) 0) n e
 
-stored_lines : (ls : List Line) → lines_of (take (length ls) (padTo 15 (items_of ls))) (take (length ls) (padTo 15 (suppliesOf ls))) (take (length ls) (padTo 15 (quantitiesOf ls))) ≡ ls
+stored_lines : (ls : List Line) → lines_of (take (length ls) (pad_to 15 (items_of ls))) (take (length ls) (pad_to 15 (supplies_of ls))) (take (length ls) (pad_to 15 (quantities_of ls))) ≡ ls
 stored_lines ls =
-    rw (unpadded 15 (length ls) (items_of ls) (items-long ls), unpadded 15 (length ls) (suppliesOf ls) (supplies-long ls), unpadded 15 (length ls) (quantitiesOf ls) (quantities-long ls))
+    rw (unpadded 15 (length ls) (items_of ls) (items-long ls), unpadded 15 (length ls) (supplies_of ls) (supplies-long ls), unpadded 15 (length ls) (quantities_of ls) (quantities-long ls))
     (lines-back ls)
 
-who-back : (who : Who) → whoOf (selection who) (take (length (nameOfWho who)) (padTo 16 (nameOfWho who))) ≡ who
-who-back (byNumber c) = refl
-who-back (byName name) = ap byName (unpadded 16 (length name) name refl)
+who-back : (who : Who) → who_of (selection who) (take (length (name_of_who who)) (pad_to 16 (name_of_who who))) ≡ who
+who-back (by_number c) = refl
+who-back (by_name name) = ap by_name (unpadded 16 (length name) name refl)
 
 form_of : (f g : Form) → ReadCase.Request f ≡ ReadCase.Request g → f ≡ g
 form_of f g e = cc
 
-restored : (s : Reading) (form : Form) → (stored s).outcome ≡ ReadCase.Request form → s ≡ read (requestIn form (stored s).lines (stored s).name)
+restored : (s : Reading) (form : Form) → (stored s).outcome ≡ ReadCase.Request form → s ≡ read (request_in_lem form (stored s).lines (stored s).name)
 unfolding stored
-restored (read (newOrder q ls)) form e = rw (← form_of _ form e) (ap (λ (k : List Line). read (newOrder q k)) (sym (stored_lines ls)))
+restored (read (new_order q ls)) form e = rw (← form_of _ form e) (ap (λ (k : List Line). read (new_order q k)) (sym (stored_lines ls)))
 restored (read (payment q who)) form e = rw (← form_of _ form e) (ap (λ (w : Who). read (payment q w)) (sym (who-back who)))
 restored (read (delivery q)) form e = rw (← form_of _ form e)
-restored (read (orderStatus q who)) form e = rw (← form_of _ form e) (ap (λ (w : Who). read (orderStatus q w)) (sym (who-back who)))
-restored (read (stockLevel q)) form e = rw (← form_of _ form e)
-restored noForm form e = absurd (let z : ◌≡◌ {A = ℕ} 0 1 = cc in omega arith)
+restored (read (order_status q who)) form e = rw (← form_of _ form e) (ap (λ (w : Who). read (order_status q w)) (sym (who-back who)))
+restored (read (stock_level q)) form e = rw (← form_of _ form e)
+restored no_form form e = absurd (let z : ◌≡◌ {A = ℕ} 0 1 = cc in omega arith)
 
-without-form : (s : Reading) (f : Refusal) → (stored s).outcome ≡ ReadCase.Refused f → s ≡ noForm
+without_form : (s : Reading) (f : Refusal) → (stored s).outcome ≡ ReadCase.Refused f → s ≡ no_form
 unfolding stored
-without-form (read (newOrder q ls)) f e = absurd (let z : ◌≡◌ {A = ℕ} 0 1 = cc in omega arith)
-without-form (read (payment q who)) f e = absurd (let z : ◌≡◌ {A = ℕ} 0 1 = cc in omega arith)
-without-form (read (delivery q)) f e = absurd (let z : ◌≡◌ {A = ℕ} 0 1 = cc in omega arith)
-without-form (read (orderStatus q who)) f e = absurd (let z : ◌≡◌ {A = ℕ} 0 1 = cc in omega arith)
-without-form (read (stockLevel q)) f e = absurd (let z : ◌≡◌ {A = ℕ} 0 1 = cc in omega arith)
-without-form noForm f e = refl
+without_form (read (new_order q ls)) f e = absurd (let z : ◌≡◌ {A = ℕ} 0 1 = cc in omega arith)
+without_form (read (payment q who)) f e = absurd (let z : ◌≡◌ {A = ℕ} 0 1 = cc in omega arith)
+without_form (read (delivery q)) f e = absurd (let z : ◌≡◌ {A = ℕ} 0 1 = cc in omega arith)
+without_form (read (order_status q who)) f e = absurd (let z : ◌≡◌ {A = ℕ} 0 1 = cc in omega arith)
+without_form (read (stock_level q)) f e = absurd (let z : ◌≡◌ {A = ℕ} 0 1 = cc in omega arith)
+without_form no_form f e = refl
 
 -- the arrays of a reading hold what is in use
-padded-long : (k : ℕ) (xs : List ℕ) → length xs ≤ length (padTo k xs)
+padded-long : (k : ℕ) (xs : List ℕ) → length xs ≤ length (pad_to k xs)
 padded-long k xs = omega (arith, length-append xs (replicate (k - length xs) 0))
 
-held-lines : (ls : List Line) (name : List ℕ) → Held (storedLines ls) (storedName name)
-held-lines ls name =
+held_lines : (ls : List Line) (name : List ℕ) → Held (stored_lines ls) (stored_name name)
+held_lines ls name =
     record {
       items = omega (arith, padded-long 15 (items_of ls), items-long ls);
-      supplies = omega (arith, padded-long 15 (suppliesOf ls), supplies-long ls);
-      quantities = omega (arith, padded-long 15 (quantitiesOf ls), quantities-long ls);
+      supplies = omega (arith, padded-long 15 (supplies_of ls), supplies-long ls);
+      quantities = omega (arith, padded-long 15 (quantities_of ls), quantities-long ls);
       name = padded-long 16 name;
     }
 
-stored-held : (s : Reading) → Held (stored s).lines (stored s).name
+stored_held : (s : Reading) → Held (stored s).lines (stored s).name
 unfolding stored
-stored-held (read (newOrder q ls)) = held-lines ls []
-stored-held (read (payment q who)) = held-lines [] (nameOfWho who)
-stored-held (read (delivery q)) = held-lines [] []
-stored-held (read (orderStatus q who)) = held-lines [] (nameOfWho who)
-stored-held (read (stockLevel q)) = held-lines [] []
-stored-held noForm = held-lines [] []
+stored_held (read (new_order q ls)) = held_lines ls []
+stored_held (read (payment q who)) = held_lines [] (name_of_who who)
+stored_held (read (delivery q)) = held_lines [] []
+stored_held (read (order_status q who)) = held_lines [] (name_of_who who)
+stored_held (read (stock_level q)) = held_lines [] []
+stored_held no_form = held_lines [] []
 
 -- ── parts as code lends them ──
 -- from the front, and from a place on
@@ -213,58 +213,58 @@ front n xs = take (n - 0) xs
 front_same : (n : ℕ) → n - 0 ≡ n
 front_same n = omega arith
 
-abbrev lentPart : Part → List ℤ → List ℤ
-lentPart p b = take (p.from + p.count - p.from) (drop p.from b)
+abbrev lent_part_lem : Part → List ℤ → List ℤ
+lent_part_lem p b = take (p.from + p.count - p.from) (drop p.from b)
 
-lent-part : (p : Part) (b : List ℤ) → lentPart p b ≡ part_of p b
-lent-part p b = let e : p.from + p.count - p.from ≡ p.count = omega arith in rw e
+lent_part : (p : Part) (b : List ℤ) → lent_part_lem p b ≡ part_of p b
+lent_part p b = let e : p.from + p.count - p.from ≡ p.count = omega arith in rw e
 
 -- ── a line answered ──
 module _ (s : Lent) (line out m : List ℕ) (n : ℕ) (left : Lent) (h : 2048 ≤ length out) where
-  stepped : (t : Bool) (text : List ℕ) → t ≡ true → text ≡ printedFor s (readLine line) → left ≡ leftAfter s (readLine line) → Answered t text out m n → Stepped s line out m n left
+  stepped : (t : Bool) (text : List ℕ) → t ≡ true → text ≡ printed_for s (read_line line) → left ≡ left_after s (read_line line) → Answered t text out m n → Stepped s line out m n left
   stepped t text e f g w =
       let o : leb 2048 (length out) ≡ true = le-leb 2048 (length out) h in
       record { long = rw (o, ← f) (rw e at w.long); bytes = rw (o, ← f) (rw e at w.bytes); leaves = rw o g }
 
   -- where it has no form
-  pub stepped-none : (a : ReadAnswer) (f : Refusal) → a ≡ stored (readLine line) → a.outcome ≡ ReadCase.Refused f → left ≡ s → Answered (hasRoom out []) noFormLine out m n → Stepped s line out m n left
-  unfolding printedFor leftAfter
-  stepped-none a f e o k w =
-      let r : readLine line ≡ noForm = without-form (readLine line) f (ap (λ (x : ReadAnswer). x.outcome) (sym e) ∙ o) in
-      stepped (hasRoom out []) noFormLine (room out [] h (omega arith)) (rw r) (rw r k) w
+  pub stepped_none : (a : ReadAnswer) (f : Refusal) → a ≡ stored (read_line line) → a.outcome ≡ ReadCase.Refused f → left ≡ s → Answered (has_room out []) no_form_line out m n → Stepped s line out m n left
+  unfolding printed_for left_after
+  stepped_none a f e o k w =
+      let r : read_line line ≡ no_form = without_form (read_line line) f (ap (λ (x : ReadAnswer). x.outcome) (sym e) ∙ o) in
+      stepped (has_room out []) no_form_line (room out [] h (omega arith)) (rw r) (rw r k) w
 
   -- where it was read: the request and the shown part as code lends them
-  module _ (a : ReadAnswer) (form : Form) (e : a ≡ stored (readLine line)) (o : a.outcome ≡ ReadCase.Request form) where
-    was_read : readLine line ≡ read (requestIn form a.lines a.name)
-    was_read = restored (readLine line) form (ap (λ (x : ReadAnswer). x.outcome) (sym e) ∙ o) ∙ ap (λ (x : ReadAnswer). read (requestIn form x.lines x.name)) (sym e)
+  module _ (a : ReadAnswer) (form : Form) (e : a ≡ stored (read_line line)) (o : a.outcome ≡ ReadCase.Request form) where
+    was_read : read_line line ≡ read (request_in_lem form a.lines a.name)
+    was_read = restored (read_line line) form (ap (λ (x : ReadAnswer). x.outcome) (sym e) ∙ o) ∙ ap (λ (x : ReadAnswer). read (request_in_lem form x.lines x.name)) (sym e)
 
-    pub stepped-read : (r : RequestAnswer)
-        → Carried s (requestOf form (lines_of (front a.lines.count a.lines.items) (front a.lines.count a.lines.supplies) (front a.lines.count a.lines.quantities)) (front a.name.length a.name.bytes)) r left
-        → Answered (hasRoom out (lentPart r.part left.nums)) (outcomeLine r.outcome r.orders (lentPart r.part left.nums)) out m n
+    pub stepped_read : (r : RequestAnswer)
+        → Carried s (request_of form (lines_of (front a.lines.count a.lines.items) (front a.lines.count a.lines.supplies) (front a.lines.count a.lines.quantities)) (front a.name.length a.name.bytes)) r left
+        → Answered (has_room out (lent_part_lem r.part left.nums)) (outcome_line r.outcome r.orders (lent_part_lem r.part left.nums)) out m n
         → Stepped s line out m n left
-    unfolding printedFor leftAfter
-    stepped-read r c w =
-        let q = requestIn form a.lines a.name in
+    unfolding printed_for left_after
+    stepped_read r c w =
+        let q = request_in_lem form a.lines a.name in
         let d : Carried s q r left = rw (front_same a.lines.count, front_same a.name.length) at c in
-        let p : lentPart r.part left.nums ≡ part_of r.part left.nums = lent-part r.part left.nums in
-        let few : length (lentPart r.part left.nums) ≤ 75 = rw (p, shown-left s q r left d) (shown-most s q) in
-        stepped (hasRoom out (lentPart r.part left.nums)) (outcomeLine r.outcome r.orders (lentPart r.part left.nums))
-        (room out (lentPart r.part left.nums) h few) (rw was_read (ap (outcomeLine r.outcome r.orders) p ∙ line-told s q r left d)) (rw was_read d.leaves) w
+        let p : lent_part_lem r.part left.nums ≡ part_of r.part left.nums = lent_part r.part left.nums in
+        let few : length (lent_part_lem r.part left.nums) ≤ 75 = rw (p, shown_left s q r left d) (shown_most s q) in
+        stepped (has_room out (lent_part_lem r.part left.nums)) (outcome_line r.outcome r.orders (lent_part_lem r.part left.nums))
+        (room out (lent_part_lem r.part left.nums) h few) (rw was_read (ap (outcome_line r.outcome r.orders) p ∙ line-told s q r left d)) (rw was_read d.leaves) w
 
 -- where there is no room
-pub stepped-nothing : (s : Lent) (line out : List ℕ) → length out < 2048 → Stepped s line out out 0 s
-stepped-nothing s line out h =
+pub stepped_nothing : (s : Lent) (line out : List ℕ) → length out < 2048 → Stepped s line out out 0 s
+stepped_nothing s line out h =
     let o : leb 2048 (length out) ≡ false = lt-leb 2048 (length out) h in
     record { long = rw o; bytes = rw o; leaves = rw o }
 
 -- the arrays of a reading hold what is in use
-pub read_held : (line : List ℕ) (a : ReadAnswer) → a ≡ stored (readLine line) → Held a.lines a.name
-read_held line a e = subst (λ (x : ReadAnswer). Held x.lines x.name) (sym e) (stored-held (readLine line))
+pub read_held : (line : List ℕ) (a : ReadAnswer) → a ≡ stored (read_line line) → Held a.lines a.name
+read_held line a e = subst (λ (x : ReadAnswer). Held x.lines x.name) (sym e) (stored_held (read_line line))
 
 -- what was written is a part of the buffer
-pub written-part : (s : Lent) (line old new : List ℕ) (n : ℕ) (left : Lent) → Stepped s line old new n left → n ≤ length new
-written-part s line old new n left w = go (roomy old) (printedFor s (readLine line)) w.long w.bytes
+pub written_part : (s : Lent) (line old new : List ℕ) (n : ℕ) (left : Lent) → Stepped s line old new n left → n ≤ length new
+written_part s line old new n left w = go (roomy old) (printed_for s (read_line line)) w.long w.bytes
   where
-    go : (t : Bool) (text : List ℕ) → n ≡ lengthIf t text → new ≡ withLine t text old → n ≤ length new
+    go : (t : Bool) (text : List ℕ) → n ≡ length_if t text → new ≡ with_line t text old → n ≤ length new
     go true text e f = rw (e, f) (omega (arith, length-append text (drop (length text) old)))
     go false text e f = omega arith

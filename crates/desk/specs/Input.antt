@@ -2,38 +2,38 @@
 -- Assumes nothing.
 use Rattle.std.specs.Prelude.{◌≡◌, Bool, true, List, [], ◌∷◌, ℕ, ◌≤◌, length, take}
 use Rattle.model.specs.Request.{Request, Lent}
-use Rattle.model.specs.RequestLine.{Reading, read, noForm, readLine}
-use Rattle.model.specs.AnswerLine.{leftAfter}
-use Rattle.model.specs.Tally.{afterAll}
-use Rattle.blocks.specs.Cutting.{linesIn, lineAfter}
+use Rattle.model.specs.RequestLine.{Reading, read, no_form, read_line}
+use Rattle.model.specs.AnswerLine.{left_after}
+use Rattle.model.specs.Tally.{after_all}
+use Rattle.blocks.specs.Cutting.{lines_in, line_after}
 
 -- what lines leave of all that is lent, one after the other
-unfoldable pub leftBy : Lent → List (List ℕ) → Lent
-leftBy s [] = s
-leftBy s (l ∷ ls) = leftBy (leftAfter s (readLine l)) ls
+unfoldable pub left_by : Lent → List (List ℕ) → Lent
+left_by s [] = s
+left_by s (l ∷ ls) = left_by (left_after s (read_line l)) ls
 
 -- the requests that lines hold: a line without a form holds none
-abbrev pub withRequest : Reading → List Request → List Request
-withRequest (read r) rs = r ∷ rs
-withRequest noForm rs = rs
+abbrev pub with_request : Reading → List Request → List Request
+with_request (read r) rs = r ∷ rs
+with_request no_form rs = rs
 
-unfoldable pub requestsIn : List (List ℕ) → List Request
-requestsIn [] = []
-requestsIn (l ∷ ls) = withRequest (readLine l) (requestsIn ls)
+unfoldable pub requests_in : List (List ℕ) → List Request
+requests_in [] = []
+requests_in (l ∷ ls) = with_request (read_line l) (requests_in ls)
 
 -- the requests that bytes of input hold; a last line without its end holds none
-abbrev pub heldIn : List ℕ → List Request
-heldIn input = requestsIn (linesIn [] input)
+abbrev pub held_in : List ℕ → List Request
+held_in input = requests_in (lines_in [] input)
 
 -- a block after the line so far `p`: of what is lent before, the bytes used of the block, and what is lent after; all are used while the output is open
 pub record FedIn (s : Lent) (p block line : List ℕ) (len used : ℕ) (going : Bool) (left : Lent) : Type 0 where
   pub short : len ≤ 1024
   pub place : used ≤ length block
   pub whole : going ≡ true → used ≡ length block
-  pub rest : take len line ≡ lineAfter p (take used block)
-  pub leaves : left ≡ leftBy s (linesIn p (take used block))
+  pub rest : take len line ≡ line_after p (take used block)
+  pub leaves : left ≡ left_by s (lines_in p (take used block))
 
 -- what is lent after is what the requests of some input leave of what is lent before; that it is standard input no contract can say
 pub record Served (s left : Lent) : Type 0 where
   pub input : List ℕ
-  pub leaves : left ≡ afterAll s (heldIn input)
+  pub leaves : left ≡ after_all s (held_in input)

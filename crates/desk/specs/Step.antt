@@ -2,12 +2,12 @@
 -- Assumes nothing.
 use Rattle.std.specs.Prelude.{◌≡◌, Bool, true, false, cond, List, ◌∷◌, ◌≢◌, ℕ, leb, ℤ, pos, length}
 use Rattle.model.specs.Answer.{Answer, committed, refused}
-use Rattle.model.specs.Opening.{openingAnswer}
+use Rattle.model.specs.Opening.{opening_answer}
 use Rattle.model.specs.Request.{Lent}
 use Rattle.model.specs.Text.{text_of}
-use Rattle.model.specs.RequestLine.{readLine}
-use Rattle.model.specs.AnswerLine.{printedFor, leftAfter}
-use Rattle.answers.specs.Writing.{withLine, lengthIf}
+use Rattle.model.specs.RequestLine.{read_line}
+use Rattle.model.specs.AnswerLine.{printed_for, left_after}
+use Rattle.answers.specs.Writing.{with_line, length_if}
 
 -- a buffer with room for any answer
 abbrev pub roomy : List ℕ → Bool
@@ -15,17 +15,17 @@ roomy out = leb 2048 (length out)
 
 -- of what is lent before, the line, the buffer before and after, the length that is answered, and what is lent after
 pub record Stepped (s : Lent) (line old new : List ℕ) (n : ℕ) (left : Lent) : Type 0 where
-  pub long : n ≡ lengthIf (roomy old) (printedFor s (readLine line))
-  pub bytes : new ≡ withLine (roomy old) (printedFor s (readLine line)) old
-  pub leaves : left ≡ cond (roomy old) (leftAfter s (readLine line)) s
+  pub long : n ≡ length_if (roomy old) (printed_for s (read_line line))
+  pub bytes : new ≡ with_line (roomy old) (printed_for s (read_line line)) old
+  pub leaves : left ≡ cond (roomy old) (left_after s (read_line line)) s
 
-abbrev pub isCommitted : Answer → Bool
-isCommitted (committed figures) = true
-isCommitted (refused r) = false
+abbrev pub is_committed : Answer → Bool
+is_committed (committed figures) = true
+is_committed (refused r) = false
 
 -- a program's book, names and table: opening accepts them where its answer is true
 pub record Ran (b : List ℤ) (names : List ℕ) (topup : List ℤ) (r : Bool) : Type 0 where
-  pub opened : r ≡ isCommitted (openingAnswer b names topup)
+  pub opened : r ≡ is_committed (opening_answer b names topup)
 
 abbrev pub None239 : ℕ → Type 0
 None239 n = (n ≢ 2) × ((n ≢ 3) × (n ≢ 9))

@@ -1,18 +1,20 @@
 // The program's desk: its book, one request line answered, and standard input answered line by line.
+#![tactic(auto)]
+
 ghost use Rattle.std.specs.Prelude.{◌≡◌, ◌≤◌, pos, length, take, replicate};
 ghost use Rattle.model.specs.Request.{lent};
-ghost use Rattle.model.proofs.Listing.{programBook, programNames, programLast, programNotes, programTopup};
+ghost use Rattle.model.proofs.Listing.{program_book, program_names, program_last_lem, program_notes, program_topup};
 ghost use Rattle.blocks.specs.Cutting.{Started};
 ghost use Rattle.desk.specs.Step.{Stepped, Ran};
 ghost use Rattle.desk.specs.Input.{FedIn, Served};
-ghost use Rattle.desk.specs.Filling.{headTo, districtsTo, pricesTo, stocksTo, twoNames};
+ghost use Rattle.desk.specs.Filling.{head_to, districts_to, prices_to, stocks_to, two_names};
 
 use model::{OpeningOutcome, ReadOutcome};
 
 // Taxes, next order numbers and discounts of the ten districts.
 fn fill_districts(b: &mut [i64])
     requires { 3479 ≤ length b.old }
-    ensures { b.new ≡ districtsTo 10 b.old }
+    ensures { b.new ≡ districts_to 10 b.old }
 {
     let mut k = 0;
     while k < 10 {
@@ -26,7 +28,7 @@ fn fill_districts(b: &mut [i64])
 // What the five stock rows hold.
 fn fill_stocks(b: &mut [i64])
     requires { 3479 ≤ length b.old }
-    ensures { b.new ≡ stocksTo 5 b.old }
+    ensures { b.new ≡ stocks_to 5 b.old }
 {
     let mut k = 0;
     while k < 5 {
@@ -38,7 +40,7 @@ fn fill_stocks(b: &mut [i64])
 // The head and the warehouse's tax.
 fn fill_head(b: &mut [i64])
     requires { 3479 ≤ length b.old }
-    ensures { b.new ≡ headTo b.old }
+    ensures { b.new ≡ head_to b.old }
 {
     b[0] = 1;
     b[1] = 2;
@@ -51,7 +53,7 @@ fn fill_head(b: &mut [i64])
 // The prices of the five items.
 fn fill_prices(b: &mut [i64])
     requires { 3479 ≤ length b.old }
-    ensures { b.new ≡ pricesTo b.old }
+    ensures { b.new ≡ prices_to b.old }
 {
     b[158] = 100;
     b[159] = 250;
@@ -62,7 +64,7 @@ fn fill_prices(b: &mut [i64])
 // The program's numbers.
 fn fill_numbers(b: &mut [i64])
     requires { b.old ≡ replicate 3479 (pos 0) }
-    ensures { b.new ≡ programBook }
+    ensures { b.new ≡ program_book }
 {
     fill_head(b);
     fill_districts(b);
@@ -72,7 +74,7 @@ fn fill_numbers(b: &mut [i64])
 
 // The names of a district: ALM, EVA and ALM, BO.
 fn two_names() -> [u8; 64]
-    ensures { result ≡ twoNames }
+    ensures { result ≡ two_names }
 {
     *b"ALM             EVA             ALM             BO              "
 }
@@ -80,7 +82,7 @@ fn two_names() -> [u8; 64]
 // The program's names.
 fn fill_names(names: &mut [u8])
     requires { names.old ≡ replicate 640 0 }
-    ensures { names.new ≡ programNames }
+    ensures { names.new ≡ program_names }
 {
     let text = two_names();
     let mut i = 0;
@@ -92,7 +94,7 @@ fn fill_names(names: &mut [u8])
 
 // The program's table: a margin of 10 and a lift of 91 for each of its five items.
 fn ten_and_91() -> [i64; 10]
-    ensures { result ≡ programTopup }
+    ensures { result ≡ program_topup }
 {
     [10, 91, 10, 91, 10, 91, 10, 91, 10, 91]
 }
@@ -203,7 +205,7 @@ fn feed(
 // Standard input answered line by line on the program's book, until it ends, cannot be read, or the output takes no more; at its end a last line without its own
 // is answered too. True where all was read and every answer taken.
 fn serve(b: &mut [i64], names: &[u8], last: &mut [i64], notes: &mut [u8], topup: &[i64]) -> bool
-    requires { (b.old ≡ programBook) × ((names.now ≡ programNames) × ((last.old ≡ programLast) × ((notes.old ≡ programNotes) × (topup.now ≡ programTopup)))) }
+    requires { (b.old ≡ program_book) × ((names.now ≡ program_names) × ((last.old ≡ program_last_lem) × ((notes.old ≡ program_notes) × (topup.now ≡ program_topup)))) }
     ensures { Served (lent b.old names.now last.old notes.old topup.now)
         (lent b.new names.now last.new notes.new topup.now) }
 {
@@ -239,7 +241,7 @@ fn serve(b: &mut [i64], names: &[u8], last: &mut [i64], notes: &mut [u8], topup:
 // The program: its book, opened, with last orders all 0, texts all spaces and the table 10, 91, and standard input answered on it; where all went well the output is closed. True, for
 // opening accepts the book.
 pub fn run() -> bool
-    ensures { Ran programBook programNames programTopup result }
+    ensures { Ran program_book program_names program_topup result }
 {
     let mut b = [0i64; 3479];
     let mut names = [0u8; 640];

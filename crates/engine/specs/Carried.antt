@@ -4,8 +4,8 @@ use Rattle.std.specs.Prelude.{◌≡◌, List, ℕ, ◌+◌, ◌≤◌, ℤ, len
 use Rattle.model.specs.declared.RequestAnswer.{RequestAnswer}
 use Rattle.model.specs.declared.RequestOutcome.{RequestOutcome}
 use Rattle.model.specs.declared.RequestOutcome.TheVariants as RequestCase
-use Rattle.model.specs.Answer.{requestSays}
-use Rattle.model.specs.Request.{Request, Lent, lent, answer_of, ordersOf, shownPart, after}
+use Rattle.model.specs.Answer.{request_says}
+use Rattle.model.specs.Request.{Request, Lent, lent, answer_of, orders_of, shown_part, after}
 use Rattle.model.specs.RequestLine.{letter}
 
 -- the letter of the requests that an outcome answers
@@ -19,10 +19,10 @@ lettered (RequestCase.StockLevel o) = 76
 -- of what is lent before, the request, the answer, and what is lent after; the shown part lies in the book left
 pub record Carried (s : Lent) (q : Request) (r : RequestAnswer) (left : Lent) : Type 0 where
   pub kind : lettered r.outcome ≡ letter q
-  pub says : requestSays r.outcome ≡ answer_of s q
-  pub orders : r.orders ≡ ordersOf s q
+  pub says : request_says r.outcome ≡ answer_of s q
+  pub orders : r.orders ≡ orders_of s q
   pub within : r.part.from + r.part.count ≤ length left.nums
-  pub shows : r.part ≡ shownPart s q
+  pub shows : r.part ≡ shown_part s q
   pub leaves : left ≡ after s q
 
 -- a request of a kind that does not take a slice, whatever that slice is

@@ -1,6 +1,8 @@
 // One request of any kind, carried out on the book.
-ghost use Rattle.model.specs.Names.{whoOf};
-ghost use Rattle.model.specs.Request.{lent, requestOf, lines_of, newOrder, payment, delivery, orderStatus, stockLevel};
+#![tactic(auto)]
+
+ghost use Rattle.model.specs.Names.{who_of};
+ghost use Rattle.model.specs.Request.{lent, request_of, lines_of, new_order, payment, delivery, order_status, stock_level};
 ghost use Rattle.engine.specs.Carried.{Carried, Whatever, CarriedBeside};
 
 use model::{
@@ -20,7 +22,7 @@ fn new_order(
     quantities: &[u64],
 ) -> RequestAnswer
     ensures { Whatever (λ notes. Carried (lent b.old names.now last.old notes topup.now)
-        (newOrder q (lines_of items.now supplies.now quantities.now))
+        (new_order q (lines_of items.now supplies.now quantities.now))
         result (lent b.new names.now last.new notes topup.now)) }
 {
     let a = new_order::new_order_split(b, names, last, topup, q, items, supplies, quantities);
@@ -45,7 +47,7 @@ fn payment(
     name: &[u8],
 ) -> RequestAnswer
     ensures { Whatever (λ last. Whatever (λ topup. Carried (lent b.old names.now last notes.old topup)
-        (payment q (whoOf who name.now))
+        (payment q (who_of who name.now))
         result (lent b.new names.now last notes.new topup))) }
 {
     let a = payment::payment(b, names, notes, q, who, name);
@@ -86,7 +88,7 @@ fn order_status(
     name: &[u8],
 ) -> RequestAnswer
     ensures { Whatever (λ notes. Whatever (λ topup. Carried (lent b.now names.now last.now notes topup)
-        (orderStatus q (whoOf who name.now))
+        (order_status q (who_of who name.now))
         result (lent b.now names.now last.now notes topup))) }
 {
     let a = order_status::status_shown(b, names, last, q, who, name);
@@ -103,7 +105,7 @@ fn order_status(
 
 // Stock-Level, whatever last orders, texts and table are.
 fn stock_level(b: &[i64], names: &[u8], q: StockLevel) -> RequestAnswer
-    ensures { CarriedBeside b.now names.now (stockLevel q) result b.now }
+    ensures { CarriedBeside b.now names.now (stock_level q) result b.now }
 {
     let a = stock_level::stock_level(b, names, q);
     let o = a.outcome;
@@ -131,7 +133,7 @@ pub fn carry_out(
     name: &[u8],
 ) -> RequestAnswer
     ensures { Carried (lent b.old names.now last.old notes.old topup.now)
-        (requestOf form (lines_of items.now supplies.now quantities.now) name.now)
+        (request_of form (lines_of items.now supplies.now quantities.now) name.now)
         result (lent b.new names.now last.new notes.new topup.now) }
 {
     match form {

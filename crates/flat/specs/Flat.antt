@@ -17,58 +17,58 @@ abbrev pub number_in : Answer → ℕ
 number_in (committed figures) = 0
 number_in (refused r) = r.number
 
-abbrev pub detailIn : Answer → ℕ
-detailIn (committed figures) = 0
-detailIn (refused r) = r.detail
+abbrev pub detail_in : Answer → ℕ
+detail_in (committed figures) = 0
+detail_in (refused r) = r.detail
 
-abbrev pub figureIn : Answer → ℕ → ℤ
-figureIn (committed figures) k = get_or figures k (pos 0)
-figureIn (refused r) k = pos 0
+abbrev pub figure_in : Answer → ℕ → ℤ
+figure_in (committed figures) k = get_or figures k (pos 0)
+figure_in (refused r) k = pos 0
 
 -- no figure
-abbrev pub bareOut : Answer → List ℕ
-bareOut a = number_in a ∷ detailIn a ∷ []
+abbrev pub bare_out : Answer → List ℕ
+bare_out a = number_in a ∷ detail_in a ∷ []
 
 -- one figure, the first
-abbrev pub oneOut : Answer → List ℕ
-oneOut a = number_in a ∷ detailIn a ∷ nat (figureIn a 0) ∷ []
+abbrev pub one_out : Answer → List ℕ
+one_out a = number_in a ∷ detail_in a ∷ nat (figure_in a 0) ∷ []
 
 -- two figures
-abbrev pub twoOut : Answer → List ℕ
-twoOut a = number_in a ∷ detailIn a ∷ nat (figureIn a 0) ∷ nat (figureIn a 1) ∷ []
+abbrev pub two_out : Answer → List ℕ
+two_out a = number_in a ∷ detail_in a ∷ nat (figure_in a 0) ∷ nat (figure_in a 1) ∷ []
 
 -- three figures
-abbrev pub threeOut : Answer → List ℕ
-threeOut a = number_in a ∷ detailIn a ∷ nat (figureIn a 0) ∷ nat (figureIn a 1) ∷ nat (figureIn a 2) ∷ []
+abbrev pub three_out : Answer → List ℕ
+three_out a = number_in a ∷ detail_in a ∷ nat (figure_in a 0) ∷ nat (figure_in a 1) ∷ nat (figure_in a 2) ∷ []
 
 -- the balance, the second figure of Payment and Order-Status
-abbrev pub balanceOut : Answer → List ℤ
-balanceOut a = figureIn a 1 ∷ []
+abbrev pub balance_out : Answer → List ℤ
+balance_out a = figure_in a 1 ∷ []
 
 -- Order-Status: customer, order, date, carrier, then where the shown part starts and how many numbers it has
-abbrev pub statusOut : Answer → Part → List ℕ
-statusOut a p =
-    number_in a ∷ detailIn a ∷ nat (figureIn a 0) ∷ nat (figureIn a 2) ∷ nat (figureIn a 3) ∷ nat (figureIn a 4) ∷ p.from ∷ p.count ∷ []
+abbrev pub status_out : Answer → Part → List ℕ
+status_out a p =
+    number_in a ∷ detail_in a ∷ nat (figure_in a 0) ∷ nat (figure_in a 2) ∷ nat (figure_in a 3) ∷ nat (figure_in a 4) ∷ p.from ∷ p.count ∷ []
 
 -- who: by the last name, or by the number
-abbrev pub selectionOf : Bool → ℕ → Selection
-selectionOf t number = cond t LastName (Number number)
+abbrev pub selection_of : Bool → ℕ → Selection
+selection_of t number = cond t LastName (Number number)
 
 -- the requests by their numbers
-abbrev pub newOrderOf : ℕ → ℕ → ℕ → ℕ → NewOrder
-newOrderOf w k c date = record { warehouse = w; district = k; customer = c; date = date }
+abbrev pub new_order_of : ℕ → ℕ → ℕ → ℕ → NewOrder
+new_order_of w k c date = record { warehouse = w; district = k; customer = c; date = date }
 
-abbrev pub paymentOf : ℕ → ℕ → ℕ → ℕ → ℕ → ℕ → Payment
-paymentOf w k cw ck date amount = record { warehouse = w; district = k; custwarehouse = cw; custdistrict = ck; date = date; amount = amount }
+abbrev pub payment_of : ℕ → ℕ → ℕ → ℕ → ℕ → ℕ → Payment
+payment_of w k cw ck date amount = record { warehouse = w; district = k; custwarehouse = cw; custdistrict = ck; date = date; amount = amount }
 
-abbrev pub deliveryOf : ℕ → ℕ → ℕ → Delivery
-deliveryOf w carrier date = record { warehouse = w; carrier = carrier; date = date }
+abbrev pub delivery_of : ℕ → ℕ → ℕ → Delivery
+delivery_of w carrier date = record { warehouse = w; carrier = carrier; date = date }
 
-abbrev pub waitingOf : ℕ → ℕ → ℕ → Waiting
-waitingOf w carrier date = record { date = date; warehouse = w; carrier = carrier }
+abbrev pub waiting_of : ℕ → ℕ → ℕ → Waiting
+waiting_of w carrier date = record { date = date; warehouse = w; carrier = carrier }
 
-abbrev pub statusOf : ℕ → ℕ → OrderStatus
-statusOf w k = record { warehouse = w; district = k }
+abbrev pub status_of : ℕ → ℕ → OrderStatus
+status_of w k = record { warehouse = w; district = k }
 
-abbrev pub stockLevelOf : ℕ → ℕ → ℕ → StockLevel
-stockLevelOf w k threshold = record { warehouse = w; district = k; threshold = threshold }
+abbrev pub stock_level_of : ℕ → ℕ → ℕ → StockLevel
+stock_level_of w k threshold = record { warehouse = w; district = k; threshold = threshold }

@@ -1,10 +1,12 @@
 // Answers as flat numbers that a caller lends, and a request's flat numbers as the call takes them.
+#![tactic(auto)]
+
 ghost use Rattle.std.specs.Prelude.{◌≡◌};
-ghost use Rattle.model.specs.Answer.{openingSays, newOrderSays, paymentSays, deliverySays, queueSays, statusSays, stockLevelSays};
-ghost use Rattle.flat.specs.Flat.{bareOut, oneOut, twoOut, threeOut, balanceOut, statusOut, selectionOf};
-ghost use Rattle.model.specs.RequestLine.{writeSays};
+ghost use Rattle.model.specs.Answer.{opening_says, new_order_says, payment_says, delivery_says, queue_says, status_says, stock_level_says};
+ghost use Rattle.flat.specs.Flat.{bare_out, one_out, two_out, three_out, balance_out, status_out, selection_of};
+ghost use Rattle.model.specs.RequestLine.{write_says};
 ghost use Rattle.model.specs.declared.Form.TheVariants as Form;
-ghost use Rattle.flat.specs.FlatLines.{namedOut, numberOut, formOut, readOut};
+ghost use Rattle.flat.specs.FlatLines.{named_out, number_out, form_out, read_out};
 
 use model::{
     Delivery, DeliveryAnswer, DeliveryOutcome, Form, NewOrder, NewOrderAnswer, NewOrderOutcome,
@@ -14,7 +16,7 @@ use model::{
 
 // Who: by the last name that is lent beside, or by the number.
 pub fn selection(named: bool, number: u64) -> Selection
-    ensures { result ≡ selectionOf named number }
+    ensures { result ≡ selection_of named number }
 {
     if named {
         return Selection::LastName;
@@ -24,7 +26,7 @@ pub fn selection(named: bool, number: u64) -> Selection
 
 // Opening's answer: number, detail.
 pub fn opening_out(o: OpeningOutcome) -> [u64; 2]
-    ensures { result ≡ bareOut (openingSays o) }
+    ensures { result ≡ bare_out (opening_says o) }
 {
     match o {
         OpeningOutcome::Accepted => [0, 0],
@@ -34,7 +36,7 @@ pub fn opening_out(o: OpeningOutcome) -> [u64; 2]
 
 // New-Order's answer: number, detail, order, total, lifts.
 fn new_order_out(o: NewOrderOutcome) -> [u64; 5]
-    ensures { result ≡ threeOut (newOrderSays o) }
+    ensures { result ≡ three_out (new_order_says o) }
 {
     match o {
         NewOrderOutcome::Committed(f) => [0, 0, f.order, f.total, f.lifts],
@@ -44,7 +46,7 @@ fn new_order_out(o: NewOrderOutcome) -> [u64; 5]
 
 // New-Order's answer, put into the lent numbers.
 pub fn put_new_order(out: &mut [u64; 5], a: NewOrderAnswer)
-    ensures { out.new ≡ threeOut (newOrderSays a.outcome) }
+    ensures { out.new ≡ three_out (new_order_says a.outcome) }
 {
     let o = a.outcome;
     *out = new_order_out(o);
@@ -52,7 +54,7 @@ pub fn put_new_order(out: &mut [u64; 5], a: NewOrderAnswer)
 
 // Payment's answer: number, detail, customer.
 pub fn payment_out(o: PaymentOutcome) -> [u64; 3]
-    ensures { result ≡ oneOut (paymentSays o) }
+    ensures { result ≡ one_out (payment_says o) }
 {
     match o {
         PaymentOutcome::Committed(f) => [0, 0, f.customer],
@@ -62,7 +64,7 @@ pub fn payment_out(o: PaymentOutcome) -> [u64; 3]
 
 // Payment's answer: the balance.
 pub fn payment_balance(o: PaymentOutcome) -> [i64; 1]
-    ensures { result ≡ balanceOut (paymentSays o) }
+    ensures { result ≡ balance_out (payment_says o) }
 {
     match o {
         PaymentOutcome::Committed(f) => [f.balance],
@@ -72,7 +74,7 @@ pub fn payment_balance(o: PaymentOutcome) -> [i64; 1]
 
 // Delivery's answer: number, detail, skip count, mark.
 fn delivery_out(o: DeliveryOutcome) -> [u64; 4]
-    ensures { result ≡ twoOut (deliverySays o) }
+    ensures { result ≡ two_out (delivery_says o) }
 {
     match o {
         DeliveryOutcome::Committed(f) => [0, 0, f.skipped, f.mark],
@@ -82,7 +84,7 @@ fn delivery_out(o: DeliveryOutcome) -> [u64; 4]
 
 // Delivery's answer and its ten order numbers, put into the lent numbers.
 pub fn put_delivery(out: &mut [u64; 4], orders: &mut [u64; 10], a: DeliveryAnswer)
-    ensures { (out.new ≡ twoOut (deliverySays a.outcome)) × (orders.new ≡ a.orders) }
+    ensures { (out.new ≡ two_out (delivery_says a.outcome)) × (orders.new ≡ a.orders) }
 {
     let o = a.outcome;
     *out = delivery_out(o);
@@ -92,7 +94,7 @@ pub fn put_delivery(out: &mut [u64; 4], orders: &mut [u64; 10], a: DeliveryAnswe
 
 // A queuing call's answer: number, detail, how many stood before it.
 fn queue_out(o: QueueOutcome) -> [u64; 3]
-    ensures { result ≡ oneOut (queueSays o) }
+    ensures { result ≡ one_out (queue_says o) }
 {
     match o {
         QueueOutcome::Committed(f) => [0, 0, f.before],
@@ -102,7 +104,7 @@ fn queue_out(o: QueueOutcome) -> [u64; 3]
 
 // A queuing call's answer, put into the lent numbers.
 pub fn put_queue(out: &mut [u64; 3], a: QueueAnswer)
-    ensures { out.new ≡ oneOut (queueSays a.outcome) }
+    ensures { out.new ≡ one_out (queue_says a.outcome) }
 {
     let o = a.outcome;
     *out = queue_out(o);
@@ -110,7 +112,7 @@ pub fn put_queue(out: &mut [u64; 3], a: QueueAnswer)
 
 // Order-Status's answer: number, detail, customer, order, date, carrier, then the shown part.
 pub fn status_out(o: StatusOutcome, from: u64, count: u64) -> [u64; 8]
-    ensures { result ≡ statusOut (statusSays o) (record { from = from; count = count }) }
+    ensures { result ≡ status_out (status_says o) (record { from = from; count = count }) }
 {
     match o {
         StatusOutcome::Committed(f) => [0, 0, f.customer, f.order, f.date, f.carrier, from, count],
@@ -120,7 +122,7 @@ pub fn status_out(o: StatusOutcome, from: u64, count: u64) -> [u64; 8]
 
 // Order-Status's answer: the balance.
 pub fn status_balance(o: StatusOutcome) -> [i64; 1]
-    ensures { result ≡ balanceOut (statusSays o) }
+    ensures { result ≡ balance_out (status_says o) }
 {
     match o {
         StatusOutcome::Committed(f) => [f.balance],
@@ -130,7 +132,7 @@ pub fn status_balance(o: StatusOutcome) -> [i64; 1]
 
 // Stock-Level's answer: number, detail, count.
 pub fn stock_level_out(o: StockLevelOutcome) -> [u64; 3]
-    ensures { result ≡ oneOut (stockLevelSays o) }
+    ensures { result ≡ one_out (stock_level_says o) }
 {
     match o {
         StockLevelOutcome::Committed(f) => [0, 0, f.count],
@@ -140,7 +142,7 @@ pub fn stock_level_out(o: StockLevelOutcome) -> [u64; 3]
 
 // 1 where who is given by the last name, else 0.
 fn named_out(s: Selection) -> u64
-    ensures { result ≡ namedOut s }
+    ensures { result ≡ named_out s }
 {
     match s {
         Selection::Number(_) => 0,
@@ -150,7 +152,7 @@ fn named_out(s: Selection) -> u64
 
 // The customer number that who is given by, 0 where by the last name.
 fn number_out(s: Selection) -> u64
-    ensures { result ≡ numberOut s }
+    ensures { result ≡ number_out s }
 {
     match s {
         Selection::Number(c) => c,
@@ -160,7 +162,7 @@ fn number_out(s: Selection) -> u64
 
 // A New-Order that was read.
 fn order_form(q: NewOrder, count: u64, length: u64) -> [u64; 13]
-    ensures { result ≡ formOut (Form.NewOrder q) count length }
+    ensures { result ≡ form_out (Form.NewOrder q) count length }
 {
     [
         0,
@@ -181,7 +183,7 @@ fn order_form(q: NewOrder, count: u64, length: u64) -> [u64; 13]
 
 // A Payment that was read.
 fn payment_form(q: Payment, who: Selection, count: u64, length: u64) -> [u64; 13]
-    ensures { result ≡ formOut (Form.Payment q who) count length }
+    ensures { result ≡ form_out (Form.Payment q who) count length }
 {
     let named = named_out(who);
     let number = number_out(who);
@@ -204,7 +206,7 @@ fn payment_form(q: Payment, who: Selection, count: u64, length: u64) -> [u64; 13
 
 // A Delivery that was read.
 fn delivery_form(q: Delivery, count: u64, length: u64) -> [u64; 13]
-    ensures { result ≡ formOut (Form.Delivery q) count length }
+    ensures { result ≡ form_out (Form.Delivery q) count length }
 {
     [
         0,
@@ -225,7 +227,7 @@ fn delivery_form(q: Delivery, count: u64, length: u64) -> [u64; 13]
 
 // An Order-Status that was read.
 fn status_form(q: OrderStatus, who: Selection, count: u64, length: u64) -> [u64; 13]
-    ensures { result ≡ formOut (Form.OrderStatus q who) count length }
+    ensures { result ≡ form_out (Form.OrderStatus q who) count length }
 {
     let named = named_out(who);
     let number = number_out(who);
@@ -248,7 +250,7 @@ fn status_form(q: OrderStatus, who: Selection, count: u64, length: u64) -> [u64;
 
 // A Stock-Level that was read.
 fn level_form(q: StockLevel, count: u64, length: u64) -> [u64; 13]
-    ensures { result ≡ formOut (Form.StockLevel q) count length }
+    ensures { result ≡ form_out (Form.StockLevel q) count length }
 {
     [
         0,
@@ -269,7 +271,7 @@ fn level_form(q: StockLevel, count: u64, length: u64) -> [u64; 13]
 
 // A request that was read: its letter, its numbers but who, whether by name, the customer number, how many lines, how long the name.
 fn form_out(form: Form, count: u64, length: u64) -> [u64; 13]
-    ensures { result ≡ formOut form count length }
+    ensures { result ≡ form_out form count length }
 {
     match form {
         Form::NewOrder(q) => order_form(q, count, length),
@@ -282,7 +284,7 @@ fn form_out(form: Form, count: u64, length: u64) -> [u64; 13]
 
 // What reading answers.
 pub fn read_out(o: ReadOutcome, count: u64, length: u64) -> [u64; 13]
-    ensures { result ≡ readOut o count length }
+    ensures { result ≡ read_out o count length }
 {
     match o {
         ReadOutcome::Request(form) => form_out(form, count, length),
@@ -292,7 +294,7 @@ pub fn read_out(o: ReadOutcome, count: u64, length: u64) -> [u64; 13]
 
 // What writing answers: number, detail, length.
 pub fn write_out(o: WriteOutcome) -> [u64; 3]
-    ensures { result ≡ oneOut (writeSays o) }
+    ensures { result ≡ one_out (write_says o) }
 {
     match o {
         WriteOutcome::Written(n) => [0, 0, n],

@@ -4,11 +4,11 @@ use Rattle.std.proofs.Common.{◌≡◌, ℕ, ◌+◌, ◌-◌, ◌/◌, ◌%◌
 use native.Mathlib.Decide.{dec_lt}
 use lib.Bits.{bit_or}
 use borrow.Author.Tests.{lt-leb}
-use Rattle.model.specs.Tests.{allTo}
+use Rattle.model.specs.Tests.{all_to}
 use Rattle.model.specs.Numbers.{cell}
 use Rattle.model.specs.Claim.{R}
 use Rattle.model.proofs.TestLaws.{and_left, and_right, and_both, all_none, all-step, all-at, all-to}
-use Rattle.cells.proofs.Ors.{below, or-below, sorted, same_truth}
+use Rattle.cells.proofs.Ors.{below, or_below, sorted, same_truth}
 
 -- a number's bits x and their sum s with 2 ^ 63 - next are below 2 ^ 63 just where the number is below next
 number-before : (v x s next : ℕ) → 1 ≤ next → next < 2 ^ 63 → v ≡ cond (below x) x (2 ^ 63) → s ≡ (x + (2 ^ 63 - next)) % 2 ^ 64 → (below x && below s) ≡ leb v (next - 1)
@@ -36,7 +36,7 @@ module _ (xs : List ℤ) (p next half : ℕ) where
 
   -- what the first i turns have found
   abbrev pub Found : ℕ → ℕ → ℕ → Type 0
-  Found low high i = (below low && below high) ≡ allTo i both
+  Found low high i = (below low && below high) ≡ all_to i both
 
   pub none_found : Found 0 0 0
   none_found = sym (all_none both)
@@ -50,14 +50,14 @@ module _ (xs : List ℤ) (p next half : ℕ) where
       let py : p + (half + (i + 1) - 1) ≡ p + half + i = omega arith in
       let fx : (below x && below s) ≡ before xs p next (i + 1) = number-before _ x s next l h (ap (cell xs) px ∙ ex) es in
       let fy : (below y && below t) ≡ before xs p next (half + (i + 1)) = number-before _ y t next l h (ap (cell xs) py ∙ ey) et in
-      rw (or-below (bit_or low x) y, or-below low x, or-below (bit_or high s) t, or-below high s, all-step both i, ← e, ← fx, ← fy)
+      rw (or_below (bit_or low x) y, or_below low x, or_below (bit_or high s) t, or_below high s, all-step both i, ← e, ← fx, ← fy)
       (sorted (below low) (below high) (below x) (below s) (below y) (below t))
 
   -- all turns: every number of the n has been looked at
-  pub found_all : (n i low high : ℕ) → half ≡ n / 2 → i ≤ n - half → n - half ≤ i → Found low high i → (below low && below high) ≡ allTo n (before xs p next)
-  found_all n i low high q a b e = e ∙ same_truth (allTo i both) (allTo n (before xs p next)) to from
+  pub found_all : (n i low high : ℕ) → half ≡ n / 2 → i ≤ n - half → n - half ≤ i → Found low high i → (below low && below high) ≡ all_to n (before xs p next)
+  found_all n i low high q a b e = e ∙ same_truth (all_to i both) (all_to n (before xs p next)) to from
     where
-      to : allTo i both ≡ true → allTo n (before xs p next) ≡ true
+      to : all_to i both ≡ true → all_to n (before xs p next) ≡ true
       to f = all-to (before xs p next) n one
         where
           one : (k : ℕ) → R n k → before xs p next k ≡ true
@@ -70,7 +70,7 @@ module _ (xs : List ℤ) (p next half : ℕ) where
                   ap (before xs p next) (sym s) ∙ and_right (before xs p next (k - half)) (before xs p next (half + (k - half))) h
               go (no g) = and_left (before xs p next k) (before xs p next (half + k)) (all-at both i f k (record { lo = r.lo; hi = omega arith }))
 
-      from : allTo n (before xs p next) ≡ true → allTo i both ≡ true
+      from : all_to n (before xs p next) ≡ true → all_to i both ≡ true
       from f = all-to both i one
         where
           one : (k : ℕ) → R i k → both k ≡ true

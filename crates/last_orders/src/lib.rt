@@ -1,11 +1,13 @@
 // The last orders lent beside the book: refusal 13's pass over a district's numbers, a customer's number read, and noted.
+#![tactic(auto)]
+
 ghost use Rattle.std.specs.Prelude.{◌≡◌, ◌+◌, ◌-◌, ◌*◌, ◌^◌, ◌<◌, ◌≤◌, true, ◌&&◌, length, nat_le};
-ghost use Rattle.model.specs.Tests.{allTo};
+ghost use Rattle.model.specs.Tests.{all_to};
 ghost use Rattle.model.specs.Numbers.{nat, cell};
-ghost use Rattle.model.specs.Layout.{perCustomer};
+ghost use Rattle.model.specs.Layout.{per_customer};
 ghost use Rattle.model.specs.Store.{run};
-ghost use Rattle.model.specs.Used.{districtUsed};
-ghost use Rattle.model.specs.LastOrder.{last_at, lastLong, lastOk, lastOps};
+ghost use Rattle.model.specs.Used.{district_used};
+ghost use Rattle.model.specs.LastOrder.{last_at, last_long, last_ok, last_ops};
 ghost use Rattle.model.specs.Claim.{R};
 ghost use Rattle.model.proofs.Fields.{Dimensioned};
 ghost use Rattle.rows.specs.Book.{Booked};
@@ -17,7 +19,7 @@ use model::Dims;
 // Where n is odd, both halves have the middle number.
 fn all_before(last: &[i64], p: u64, n: u64, next: u64) -> bool
     requires { (p + n ≤ length last.now) × ((1 ≤ next) × (next < 2 ^ 63)) }
-    ensures { result ≡ allTo n (λ c. nat_le (cell last.now (p + (c - 1))) (next - 1)) }
+    ensures { result ≡ all_to n (λ c. nat_le (cell last.now (p + (c - 1))) (next - 1)) }
 {
     let room = 9223372036854775808 - next;
     let half = n / 2;
@@ -39,7 +41,7 @@ fn all_before(last: &[i64], p: u64, n: u64, next: u64) -> bool
 // The first test of refusal 13: the slice is as long as it has to be.
 pub fn long_ok(last: &[i64], d: Dims) -> bool
     requires { Dimensioned d }
-    ensures { result ≡ lastLong d last.now }
+    ensures { result ≡ last_long d last.now }
 {
     let long = last.len() as u64;
     let customers = layout::all_customers(d);
@@ -48,8 +50,8 @@ pub fn long_ok(last: &[i64], d: Dims) -> bool
 
 // The second: the numbers of the call's district are below its next order number. The district's row has been found in range.
 pub fn numbers_ok(last: &[i64], b: &[i64], d: Dims, w: u64, k: u64) -> bool
-    requires { Booked d b.now × (R d.warehouses w × (R 10 k × ((districtUsed d b.now w k ≡ true) × (lastLong d last.now ≡ true)))) }
-    ensures { result ≡ lastOk d b.now last.now w k }
+    requires { Booked d b.now × (R d.warehouses w × (R 10 k × ((district_used d b.now w k ≡ true) × (last_long d last.now ≡ true)))) }
+    ensures { result ≡ last_ok d b.now last.now w k }
 {
     let p = layout::of_customer(d, w, k, 1);
     let next = rows::next_order(b, d, w, k);
@@ -58,8 +60,8 @@ pub fn numbers_ok(last: &[i64], b: &[i64], d: Dims, w: u64, k: u64) -> bool
 
 // Both tests, as New-Order makes them.
 pub fn fits(last: &[i64], b: &[i64], d: Dims, w: u64, k: u64) -> bool
-    requires { Booked d b.now × (R d.warehouses w × (R 10 k × (districtUsed d b.now w k ≡ true))) }
-    ensures { result ≡ (lastLong d last.now && lastOk d b.now last.now w k) }
+    requires { Booked d b.now × (R d.warehouses w × (R 10 k × (district_used d b.now w k ≡ true))) }
+    ensures { result ≡ (last_long d last.now && last_ok d b.now last.now w k) }
 {
     if !long_ok(last, d) {
         return false;
@@ -69,7 +71,7 @@ pub fn fits(last: &[i64], b: &[i64], d: Dims, w: u64, k: u64) -> bool
 
 // A customer's last order, 0 for none; a negative number is above every order.
 pub fn last_of(last: &[i64], d: Dims, w: u64, k: u64, c: u64) -> u64
-    requires { Dimensioned d × (R d.warehouses w × (R 10 k × (R d.customers c × (lastLong d last.now ≡ true)))) }
+    requires { Dimensioned d × (R d.warehouses w × (R 10 k × (R d.customers c × (last_long d last.now ≡ true)))) }
     ensures { result ≡ nat (last_at d last.now w k c) }
 {
     let p = layout::of_customer(d, w, k, c);
@@ -79,7 +81,7 @@ pub fn last_of(last: &[i64], d: Dims, w: u64, k: u64, c: u64) -> u64
 // An order becomes its customer's last.
 pub fn note(last: &mut [i64], d: Dims, w: u64, k: u64, c: u64, order: u64)
     requires { Dimensioned d × (R d.warehouses w × (R 10 k × (R d.customers c × ((length last.old ≡ 10 * d.warehouses * d.customers) × (order < 2 ^ 63))))) }
-    ensures { last.new ≡ run (perCustomer d) (lastOps w k c order) last.old }
+    ensures { last.new ≡ run (per_customer d) (last_ops w k c order) last.old }
 {
     let at = layout::of_customer(d, w, k, c);
     cells::put(last, at, order);

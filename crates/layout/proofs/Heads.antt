@@ -8,7 +8,7 @@ use lib.IntN.{ℤ}
 use Rattle.model.specs.declared.Dims.{Dims}
 use Rattle.model.specs.declared.Refusal.{Refusal}
 use Rattle.model.specs.Tests.{Check, fault, staged}
-use Rattle.model.specs.Head.{dims, headOk}
+use Rattle.model.specs.Head.{dims, head_ok}
 use Rattle.layout.specs.declared.Head.{Head}
 use Rattle.layout.specs.declared.Head.TheVariants as Head
 use Rattle.layout.specs.Heads.{Read, HeadSays}
@@ -17,10 +17,10 @@ module _ (b : List ℤ) (n : ℕ) {h : Head} (v : HeadSays b n h) where
   pub head_read : {d : Dims} → h ≡ Head.Book d → Read b n d
   head_read e = subst (HeadSays b n) e v
 
-  pub head-damaged : h ≡ Head.Damaged → headOk b n ≡ false
-  head-damaged e = subst (HeadSays b n) e v
+  pub head_damaged : h ≡ Head.Damaged → head_ok b n ≡ false
+  head_damaged e = subst (HeadSays b n) e v
 
 -- the first refusal of what request and rows decide, by the dimensions that were read
-pub behind-head : (b : List ℤ) (n : ℕ) (asked used : Dims → List Check) {d : Dims} {r : Refusal} → Read b n d
-    → r ≡ fault (asked d ++ used d) → r ≡ staged (headOk b n) (asked (dims b)) (used (dims b))
-behind-head b n asked used v e = e ∙ ap (λ (x : Dims). fault (asked x ++ used x)) v.same ∙ rw v.fine
+pub behind_head : (b : List ℤ) (n : ℕ) (asked used : Dims → List Check) {d : Dims} {r : Refusal} → Read b n d
+    → r ≡ fault (asked d ++ used d) → r ≡ staged (head_ok b n) (asked (dims b)) (used (dims b))
+behind_head b n asked used v e = e ∙ ap (λ (x : Dims). fault (asked x ++ used x)) v.same ∙ rw v.fine

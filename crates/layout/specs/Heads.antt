@@ -1,8 +1,8 @@
--- What reading the head finds. No rule of the book is here: headOk and dims are the model's.
+-- What reading the head finds. No rule of the book is here: head_ok and dims are the model's.
 -- Assumes nothing.
 use Rattle.std.specs.Prelude.{◌≡◌, true, false, List, ℕ, ℤ}
 use Rattle.model.specs.declared.Dims.{Dims}
-use Rattle.model.specs.Head.{dims, headOk}
+use Rattle.model.specs.Head.{dims, head_ok}
 use Rattle.model.proofs.Fields.{Shaped}
 use Rattle.layout.specs.declared.Head.{Head}
 use Rattle.layout.specs.declared.Head.TheVariants as Head
@@ -10,9 +10,9 @@ use Rattle.layout.specs.declared.Head.TheVariants as Head
 -- a book of dimensions d; n is the number of name bytes
 pub record Read (b : List ℤ) (n : ℕ) (d : Dims) : Type 0 where
   pub same : d ≡ dims b
-  pub fine : headOk b n ≡ true
+  pub fine : head_ok b n ≡ true
   pub shaped : Shaped d b n
 
 abbrev pub HeadSays : List ℤ → ℕ → Head → Type 0
 HeadSays b n (Head.Book d) = Read b n d
-HeadSays b n Head.Damaged = headOk b n ≡ false
+HeadSays b n Head.Damaged = head_ok b n ≡ false

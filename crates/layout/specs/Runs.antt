@@ -3,7 +3,7 @@
 use Rattle.std.specs.Prelude.{◌≡◌, ℕ, ◌+◌, ◌*◌, ◌≤◌, ◌<◌}
 use Rattle.model.specs.declared.Dims.{Dims}
 use Rattle.model.specs.Layout.{shapes, place, numbers}
-use Rattle.model.specs.Rows.{orderRow}
+use Rattle.model.specs.Rows.{order_row}
 use Rattle.layout.specs.declared.Run.{Run}
 
 -- where row i, from 0, starts
@@ -13,7 +13,7 @@ row_in r i = r.at + 81 * i
 -- the rows of the n orders of a district from number `first` on
 pub record RunOf (d : Dims) (w k first n : ℕ) (r : Run) : Type 0 where
   pub count : r.count ≡ n
-  pub each : (i : ℕ) → i < n → row_in r i ≡ place (shapes d) (orderRow d w k (first + i))
+  pub each : (i : ℕ) → i < n → row_in r i ≡ place (shapes d) (order_row d w k (first + i))
   pub ends : (i : ℕ) → i < n → row_in r i + 81 ≤ numbers d
 
 -- the rows of the first n orders of a district's section

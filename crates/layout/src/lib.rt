@@ -1,12 +1,14 @@
+#![tactic(auto)]
+
 ghost use Rattle.std.specs.Prelude.{◌≡◌, ◌+◌, ◌*◌, ◌≤◌, ◌<◌, ◌^◌, length};
 ghost use Rattle.model.specs.Tests.{every};
-ghost use Rattle.model.specs.Layout.{numbers, nameBytes, shapes, place, perCustomer, ofCustomer};
-ghost use Rattle.model.specs.Head.{dims, dimsTests, sizeTests};
-ghost use Rattle.model.specs.Rows.{warehouseRow, districtRow, customerRow, price, stockRow, slot, orderRow, historyRow};
-ghost use Rattle.model.specs.Names.{namePlace};
+ghost use Rattle.model.specs.Layout.{numbers, name_bytes, shapes, place, per_customer, of_customer};
+ghost use Rattle.model.specs.Head.{dims, dims_tests, size_tests};
+ghost use Rattle.model.specs.Rows.{warehouse_row, district_row, customer_row, price, stock_row, slot, order_row, history_row};
+ghost use Rattle.model.specs.Names.{name_place};
 ghost use Rattle.model.specs.Claim.{R};
 ghost use Rattle.model.proofs.Fields.{Dimensioned};
-ghost use Rattle.layout.specs.Layout.{allCustomers, allStocks, allOrders, itemBase, stockBase, orderBase, historyBase};
+ghost use Rattle.layout.specs.Layout.{all_customers, all_stocks, all_orders, item_base, stock_base, order_base, history_base};
 ghost use Rattle.layout.specs.Heads.{HeadSays};
 ghost use Rattle.layout.specs.Runs.{row_in, RunOf, SectionRun};
 
@@ -15,7 +17,7 @@ use model::Dims;
 // The five numbers that fix the size are in their ranges.
 fn dims_ok(b: &[i64]) -> bool
     requires { 6 ≤ length b.now }
-    ensures { result ≡ every (dimsTests (dims b.now)) }
+    ensures { result ≡ every (dims_tests (dims b.now)) }
 {
     cells::one_to(b, 0, 20)
         & cells::one_to(b, 1, 3000)
@@ -26,7 +28,7 @@ fn dims_ok(b: &[i64]) -> bool
 
 // Five sizes that stand in no book are in the same ranges.
 pub fn dims_in_range(d: Dims) -> bool
-    ensures { result ≡ every (dimsTests d) }
+    ensures { result ≡ every (dims_tests d) }
 {
     cells::within(d.warehouses, 1, 20)
         & cells::within(d.customers, 1, 3000)
@@ -57,21 +59,21 @@ fn dims_of(b: &[i64]) -> Dims
 // How many customers, stocks and orders the book has rows for.
 pub fn all_customers(d: Dims) -> u64
     requires { Dimensioned d }
-    ensures { (result ≡ allCustomers d) × (result ≤ 600000) }
+    ensures { (result ≡ all_customers d) × (result ≤ 600000) }
 {
     10 * d.warehouses * d.customers
 }
 
 fn all_stocks(d: Dims) -> u64
     requires { Dimensioned d }
-    ensures { (result ≡ allStocks d) × (result ≤ 2000000) }
+    ensures { (result ≡ all_stocks d) × (result ≤ 2000000) }
 {
     d.warehouses * d.items
 }
 
 fn all_orders(d: Dims) -> u64
     requires { Dimensioned d }
-    ensures { (result ≡ allOrders d) × (result ≤ 2000000) }
+    ensures { (result ≡ all_orders d) × (result ≤ 2000000) }
 {
     10 * d.warehouses * d.orders
 }
@@ -79,7 +81,7 @@ fn all_orders(d: Dims) -> u64
 // Where the items, the stocks, the orders and the history start.
 fn item_base(d: Dims) -> u64
     requires { Dimensioned d }
-    ensures { (result ≡ itemBase d) × (result ≤ 3700000) }
+    ensures { (result ≡ item_base d) × (result ≤ 3700000) }
 {
     let customers = all_customers(d);
     6 + 2 * d.warehouses + 30 * d.warehouses + 6 * customers
@@ -87,14 +89,14 @@ fn item_base(d: Dims) -> u64
 
 fn stock_base(d: Dims) -> u64
     requires { Dimensioned d }
-    ensures { (result ≡ stockBase d) × (result ≤ 3800000) }
+    ensures { (result ≡ stock_base d) × (result ≤ 3800000) }
 {
     item_base(d) + d.items
 }
 
 fn order_base(d: Dims) -> u64
     requires { Dimensioned d }
-    ensures { (result ≡ orderBase d) × (result ≤ 11800000) }
+    ensures { (result ≡ order_base d) × (result ≤ 11800000) }
 {
     let stocks = all_stocks(d);
     stock_base(d) + 4 * stocks
@@ -102,7 +104,7 @@ fn order_base(d: Dims) -> u64
 
 fn history_base(d: Dims) -> u64
     requires { Dimensioned d }
-    ensures { (result ≡ historyBase d) × (result ≤ 200000000) }
+    ensures { (result ≡ history_base d) × (result ≤ 200000000) }
 {
     let orders = all_orders(d);
     order_base(d) + 81 * orders
@@ -119,7 +121,7 @@ pub fn numbers_of(d: Dims) -> u64
 // How many name bytes the book has.
 pub fn name_bytes_of(d: Dims) -> u64
     requires { Dimensioned d }
-    ensures { (result ≡ nameBytes d) × (result ≤ 19200000) }
+    ensures { (result ≡ name_bytes d) × (result ≤ 19200000) }
 {
     32 * all_customers(d)
 }
@@ -127,7 +129,7 @@ pub fn name_bytes_of(d: Dims) -> u64
 // The history count and the two lengths agree with the head.
 fn sizes_ok(b: &[i64], wide: u64, d: Dims) -> bool
     requires { (6 ≤ length b.now) × Dimensioned d }
-    ensures { result ≡ every (sizeTests d b.now wide) }
+    ensures { result ≡ every (size_tests d b.now wide) }
 {
     let count = cells::get(b, 5);
     let numbers = numbers_of(d);
@@ -164,7 +166,7 @@ pub fn head_of(b: &[i64], names: &[u8]) -> Head
 // Where the row of a warehouse starts.
 pub fn warehouse_at(d: Dims, w: u64) -> u64
     requires { Dimensioned d × R d.warehouses w }
-    ensures { (result ≡ place (shapes d) (warehouseRow w)) × (result + 2 ≤ numbers d) }
+    ensures { (result ≡ place (shapes d) (warehouse_row w)) × (result + 2 ≤ numbers d) }
 {
     6 + 2 * (w - 1)
 }
@@ -172,7 +174,7 @@ pub fn warehouse_at(d: Dims, w: u64) -> u64
 // Where the row of a district starts.
 pub fn district_at(d: Dims, w: u64, k: u64) -> u64
     requires { Dimensioned d × (R d.warehouses w × R 10 k) }
-    ensures { (result ≡ place (shapes d) (districtRow w k)) × (result + 3 ≤ numbers d) }
+    ensures { (result ≡ place (shapes d) (district_row w k)) × (result + 3 ≤ numbers d) }
 {
     6 + 2 * d.warehouses + 3 * (10 * (w - 1) + (k - 1))
 }
@@ -180,7 +182,7 @@ pub fn district_at(d: Dims, w: u64, k: u64) -> u64
 // Where the row of a customer starts.
 pub fn customer_at(d: Dims, w: u64, k: u64, c: u64) -> u64
     requires { Dimensioned d × (R d.warehouses w × (R 10 k × R d.customers c)) }
-    ensures { (result ≡ place (shapes d) (customerRow w k c)) × (result + 6 ≤ numbers d) }
+    ensures { (result ≡ place (shapes d) (customer_row w k c)) × (result + 6 ≤ numbers d) }
 {
     let block = (10 * (w - 1) + (k - 1)) * d.customers;
     6 + 2 * d.warehouses + 30 * d.warehouses + 6 * (block + (c - 1))
@@ -197,7 +199,7 @@ pub fn item_at(d: Dims, i: u64) -> u64
 // Where the row of an item's stock at a warehouse starts.
 pub fn stock_at(d: Dims, w: u64, i: u64) -> u64
     requires { Dimensioned d × (R d.warehouses w × R d.items i) }
-    ensures { (result ≡ place (shapes d) (stockRow w i)) × (result + 4 ≤ numbers d) }
+    ensures { (result ≡ place (shapes d) (stock_row w i)) × (result + 4 ≤ numbers d) }
 {
     let block = (w - 1) * d.items;
     stock_base(d) + 4 * (block + (i - 1))
@@ -214,7 +216,7 @@ fn slot_of(d: Dims, o: u64) -> u64
 // Where the row of an order starts.
 pub fn order_at(d: Dims, w: u64, k: u64, o: u64) -> u64
     requires { Dimensioned d × (R d.warehouses w × (R 10 k × R d.orders o)) }
-    ensures { (result ≡ place (shapes d) (orderRow d w k o)) × (result + 81 ≤ numbers d) }
+    ensures { (result ≡ place (shapes d) (order_row d w k o)) × (result + 81 ≤ numbers d) }
 {
     let block = (10 * (w - 1) + (k - 1)) * d.orders;
     let slot = slot_of(d, o);
@@ -255,7 +257,7 @@ pub fn order_in(run: Run, i: u64) -> u64
 // Where the history row h starts, h from 1.
 pub fn history_at(d: Dims, h: u64) -> u64
     requires { Dimensioned d × R d.histories h }
-    ensures { (result ≡ place (shapes d) (historyRow h)) × (result + 7 ≤ numbers d) }
+    ensures { (result ≡ place (shapes d) (history_row h)) × (result + 7 ≤ numbers d) }
 {
     history_base(d) + 7 * (h - 1)
 }
@@ -263,7 +265,7 @@ pub fn history_at(d: Dims, h: u64) -> u64
 // Where the names of a district's customers start.
 pub fn name_base(d: Dims, w: u64, k: u64) -> u64
     requires { Dimensioned d × (R d.warehouses w × R 10 k) }
-    ensures { (result ≡ namePlace d w k 1) × (result + 32 * d.customers ≤ nameBytes d) }
+    ensures { (result ≡ name_place d w k 1) × (result + 32 * d.customers ≤ name_bytes d) }
 {
     let district = (w - 1) * 10 + (k - 1);
     let first = district * d.customers;
@@ -273,7 +275,7 @@ pub fn name_base(d: Dims, w: u64, k: u64) -> u64
 // Where the names of a customer start.
 pub fn name_at(d: Dims, w: u64, k: u64, c: u64) -> u64
     requires { Dimensioned d × (R d.warehouses w × (R 10 k × R d.customers c)) }
-    ensures { (result ≡ namePlace d w k c) × (result + 32 ≤ nameBytes d) }
+    ensures { (result ≡ name_place d w k c) × (result + 32 ≤ name_bytes d) }
 {
     name_base(d, w, k) + 32 * (c - 1)
 }
@@ -281,7 +283,7 @@ pub fn name_at(d: Dims, w: u64, k: u64, c: u64) -> u64
 // Where a customer's number stands in a slice that has one number per customer.
 pub fn of_customer(d: Dims, w: u64, k: u64, c: u64) -> u64
     requires { Dimensioned d × (R d.warehouses w × (R 10 k × R d.customers c)) }
-    ensures { (result ≡ place (perCustomer d) (ofCustomer w k c)) × (result + 1 ≤ 10 * d.warehouses * d.customers) }
+    ensures { (result ≡ place (per_customer d) (of_customer w k c)) × (result + 1 ≤ 10 * d.warehouses * d.customers) }
 {
     let block = (10 * (w - 1) + (k - 1)) * d.customers;
     block + (c - 1)

@@ -1,10 +1,12 @@
 // Request lines: reading one.
+#![tactic(auto)]
+
 ghost use Rattle.std.specs.Prelude.{◌≡◌, false, ◌+◌, ◌*◌, ◌≤◌, ◌<◌, length, []};
 ghost use Rattle.model.specs.Text.{parted};
-ghost use Rattle.model.specs.RequestLine.{isPrintable, isName, noForm, readNewOrder, readPayment, readDelivery, readOrderStatus};
-ghost use Rattle.model.specs.RequestLine.{readStockLevel, readFields, readParted, readLine, storedLines, storedName, storedForm, stored};
-ghost use Rattle.text.specs.Fields.{hasNumber, fieldsFrom};
-ghost use Rattle.lines.specs.Fields.{Run, columnOf, columns, noWho, whoByNumber, whoByName, whoStep, WhoSays};
+ghost use Rattle.model.specs.RequestLine.{is_printable, is_name, no_form, read_new_order, read_payment, read_delivery, read_order_status};
+ghost use Rattle.model.specs.RequestLine.{read_stock_level, read_fields, read_parted, read_line, stored_lines, stored_name, stored_form, stored};
+ghost use Rattle.text.specs.Fields.{has_number, fields_from};
+ghost use Rattle.lines.specs.Fields.{Run, column_of, columns, no_who, who_by_number, who_by_name, who_step, WhoSays};
 
 use model::{
     Delivery, Form, LastName, Lines, NewOrder, OrderStatus, Payment, ReadAnswer, ReadOutcome,
@@ -32,7 +34,7 @@ pub struct WhoStep {
 // The numbers in the fields from a position on: at most k, up to the first field that is none.
 fn numbers_at(s: &[u8], at: usize, k: usize) -> Numbers
     requires { (at ≤ length s.now + 1) × (k ≤ 49) }
-    ensures { Run s.now at result.count result.next result.values × ((result.count ≤ k) × (result.count < k → hasNumber (fieldsFrom s.now result.next) ≡ false)) }
+    ensures { Run s.now at result.count result.next result.values × ((result.count ≤ k) × (result.count < k → has_number (fields_from s.now result.next) ≡ false)) }
 {
     let mut values = [0u64; 49];
     let mut next = at;
@@ -58,7 +60,7 @@ fn numbers_at(s: &[u8], at: usize, k: usize) -> Numbers
 
 // No lines.
 fn no_lines() -> Lines
-    ensures { result ≡ storedLines [] }
+    ensures { result ≡ stored_lines [] }
 {
     let items = [0u64; 15];
     let supplies = [0u64; 15];
@@ -73,7 +75,7 @@ fn no_lines() -> Lines
 
 // No name.
 fn no_name() -> LastName
-    ensures { result ≡ storedName [] }
+    ensures { result ≡ stored_name [] }
 {
     let bytes = [0u8; 16];
     LastName { length: 0, bytes }
@@ -81,7 +83,7 @@ fn no_name() -> LastName
 
 // The answer where a line has no form.
 fn no_form() -> ReadAnswer
-    ensures { result ≡ stored noForm }
+    ensures { result ≡ stored no_form }
 {
     let outcome = ReadOutcome::Refused(Refusal {
         number: 1,
@@ -98,7 +100,7 @@ fn no_form() -> ReadAnswer
 
 // The answer of a request without lines and last name.
 fn plain(form: Form) -> ReadAnswer
-    ensures { result ≡ storedForm form [] [] }
+    ensures { result ≡ stored_form form [] [] }
 {
     let outcome = ReadOutcome::Request(form);
     let lines = no_lines();
@@ -113,7 +115,7 @@ fn plain(form: Form) -> ReadAnswer
 // D: three numbers.
 fn read_delivery(s: &[u8]) -> ReadAnswer
     requires { 1 ≤ length s.now }
-    ensures { result ≡ stored (readDelivery (fieldsFrom s.now 2)) }
+    ensures { result ≡ stored (read_delivery (fields_from s.now 2)) }
 {
     let n = numbers_at(s, 2, 49);
     if n.next <= s.len() {
@@ -134,7 +136,7 @@ fn read_delivery(s: &[u8]) -> ReadAnswer
 // L: three numbers.
 fn read_stock_level(s: &[u8]) -> ReadAnswer
     requires { 1 ≤ length s.now }
-    ensures { result ≡ stored (readStockLevel (fieldsFrom s.now 2)) }
+    ensures { result ≡ stored (read_stock_level (fields_from s.now 2)) }
 {
     let n = numbers_at(s, 2, 49);
     if n.next <= s.len() {
@@ -155,7 +157,7 @@ fn read_stock_level(s: &[u8]) -> ReadAnswer
 // Every third of the values, n of them, and zeros after.
 fn column(v: [u64; 49], from: usize, n: usize) -> [u64; 15]
     requires { (n ≤ 15) × (from ≤ 6) }
-    ensures { result ≡ columnOf v from n }
+    ensures { result ≡ column_of v from n }
 {
     let mut c = [0u64; 15];
     let mut i = 0;
@@ -185,7 +187,7 @@ fn lines_of(v: [u64; 49], n: usize) -> Lines
 // N: four numbers, and three for each of 1 to 15 lines.
 fn read_new_order(s: &[u8]) -> ReadAnswer
     requires { 1 ≤ length s.now }
-    ensures { result ≡ stored (readNewOrder (fieldsFrom s.now 2)) }
+    ensures { result ≡ stored (read_new_order (fields_from s.now 2)) }
 {
     let n = numbers_at(s, 2, 49);
     if n.next <= s.len() {
@@ -216,14 +218,14 @@ fn read_new_order(s: &[u8]) -> ReadAnswer
 
 // A byte that a name may have.
 fn byte_ok(x: u8) -> bool
-    ensures { result ≡ isPrintable x }
+    ensures { result ≡ is_printable x }
 {
     (32 <= x) & (x <= 126)
 }
 
 // A last name of 1 to 16 bytes, no space at either end.
 pub fn name_ok(f: &[u8]) -> bool
-    ensures { result ≡ isName f.now }
+    ensures { result ≡ is_name f.now }
 {
     let n = f.len();
     if n < 1 {
@@ -244,7 +246,7 @@ pub fn name_ok(f: &[u8]) -> bool
 // A name of at most 16 bytes, and zeros after it.
 fn name_of(f: &[u8]) -> LastName
     requires { length f.now ≤ 16 }
-    ensures { result ≡ storedName f.now }
+    ensures { result ≡ stored_name f.now }
 {
     let mut bytes = [0u8; 16];
     let mut i = 0;
@@ -260,7 +262,7 @@ fn name_of(f: &[u8]) -> LastName
 
 // Nobody.
 fn no_who() -> WhoStep
-    ensures { result ≡ noWho }
+    ensures { result ≡ no_who }
 {
     let selection = Selection::LastName;
     let name = no_name();
@@ -274,7 +276,7 @@ fn no_who() -> WhoStep
 
 // Who by the number that a field holds after its #.
 fn number_who(f: &[u8], next: usize) -> WhoStep
-    ensures { result ≡ whoByNumber f.now next }
+    ensures { result ≡ who_by_number f.now next }
 {
     let Number::Value(v) = text::number_of(f) else {
         return no_who();
@@ -291,7 +293,7 @@ fn number_who(f: &[u8], next: usize) -> WhoStep
 
 // Who by the name that a field holds after its =.
 fn name_who(f: &[u8], next: usize) -> WhoStep
-    ensures { result ≡ whoByName f.now next }
+    ensures { result ≡ who_by_name f.now next }
 {
     if name_ok(f) {
         let selection = Selection::LastName;
@@ -308,7 +310,7 @@ fn name_who(f: &[u8], next: usize) -> WhoStep
 
 // Who, as a field holds it.
 fn who_of(f: &[u8], next: usize) -> WhoStep
-    ensures { result ≡ whoStep f.now next }
+    ensures { result ≡ who_step f.now next }
 {
     let n = f.len();
     if n < 1 {
@@ -339,7 +341,7 @@ fn who_at(s: &[u8], at: usize) -> WhoStep
 // P: four numbers, who, two numbers.
 fn read_payment(s: &[u8]) -> ReadAnswer
     requires { 1 ≤ length s.now }
-    ensures { result ≡ stored (readPayment (fieldsFrom s.now 2)) }
+    ensures { result ≡ stored (read_payment (fields_from s.now 2)) }
 {
     let n = numbers_at(s, 2, 4);
     if n.count < 4 {
@@ -380,7 +382,7 @@ fn read_payment(s: &[u8]) -> ReadAnswer
 // S: two numbers, who.
 fn read_order_status(s: &[u8]) -> ReadAnswer
     requires { 1 ≤ length s.now }
-    ensures { result ≡ stored (readOrderStatus (fieldsFrom s.now 2)) }
+    ensures { result ≡ stored (read_order_status (fields_from s.now 2)) }
 {
     let n = numbers_at(s, 2, 2);
     if n.count < 2 {
@@ -412,7 +414,7 @@ fn read_order_status(s: &[u8]) -> ReadAnswer
 // The form that a letter begins; the fields after it start at position 2.
 fn read_form(s: &[u8], x: u64) -> ReadAnswer
     requires { 1 ≤ length s.now }
-    ensures { result ≡ stored (readFields x (fieldsFrom s.now 2)) }
+    ensures { result ≡ stored (read_fields x (fields_from s.now 2)) }
 {
     if x == 78 {
         return read_new_order(s);
@@ -434,7 +436,7 @@ fn read_form(s: &[u8], x: u64) -> ReadAnswer
 
 // A line without its byte 10.
 fn read_body(s: &[u8]) -> ReadAnswer
-    ensures { result ≡ stored (readParted (parted s.now)) }
+    ensures { result ≡ stored (read_parted (parted s.now)) }
 {
     let e = text::field_end(s, 0, 9);
     if e != 1 {
@@ -446,7 +448,7 @@ fn read_body(s: &[u8]) -> ReadAnswer
 
 // The request of a line, or 1.
 pub fn read_line(s: &[u8]) -> ReadAnswer
-    ensures { result ≡ stored (readLine s.now) }
+    ensures { result ≡ stored (read_line s.now) }
 {
     let n = s.len();
     if n < 1 {

@@ -9,48 +9,48 @@ use lib.Dec.{ltb}
 use lib.ListN.{length, get_or, take}
 use lib.Seq.{length-take-le, get_or-take}
 use Rattle.model.specs.declared.Dims.{Dims}
-use Rattle.model.specs.Tests.{allTo}
-use Rattle.model.specs.Names.{namePlace, name_at, nameOk, lastName, firstName, compareNames, isEqual, smallerOr, named, before, sorted, passing, namesakes}
-use Rattle.model.specs.Used.{namesUsed}
+use Rattle.model.specs.Tests.{all_to}
+use Rattle.model.specs.Names.{name_place, name_at, name_ok, last_name, first_name, compare_names, is_equal, smaller_or, named, before, sorted, passing, namesakes}
+use Rattle.model.specs.Used.{names_used}
 use Rattle.model.specs.Claim.{R}
-use Rattle.lookup.specs.Listed.{namedFrom, beforeFrom, nameOkFrom, Listed}
+use Rattle.lookup.specs.Listed.{named_from, before_from, name_ok_from, Listed}
 use Rattle.model.proofs.Order.{order-total}
 use Rattle.model.proofs.Ordering.{sorted-at, sorted-ordered}
 use Rattle.model.proofs.NameLaws.{name-place}
-use Rattle.lookup.proofs.Inserting.{from-trans}
+use Rattle.lookup.proofs.Inserting.{from_trans}
 
-module _ (d : Dims) (names : List ℕ) (w k : ℕ) {base : ℕ} (e : base ≡ namePlace d w k 1) where
-  place-from : (c : ℕ) → base + 32 * (c - 1) ≡ namePlace d w k c
+module _ (d : Dims) (names : List ℕ) (w k : ℕ) {base : ℕ} (e : base ≡ name_place d w k 1) where
+  place-from : (c : ℕ) → base + 32 * (c - 1) ≡ name_place d w k c
   place-from c = omega (arith, name-place d w k c)
 
-  named-from : (name : List ℕ) → namedFrom names base name ≡ named d names w k name
-  unfolding namedFrom named lastName
-  named-from name = fun_ext (λ c. ap (λ (p : ℕ). isEqual (compareNames (name_at names p) name)) (place-from c))
+  named-from : (name : List ℕ) → named_from names base name ≡ named d names w k name
+  unfolding named_from named last_name
+  named-from name = fun_ext (λ c. ap (λ (p : ℕ). is_equal (compare_names (name_at names p) name)) (place-from c))
 
-  before-from : beforeFrom names base ≡ before d names w k
-  unfolding beforeFrom before firstName
+  before-from : before_from names base ≡ before d names w k
+  unfolding before_from before first_name
   before-from =
       fun_ext (λ a. fun_ext (λ c.
-      ap (λ (p : ℕ). smallerOr (compareNames (name_at names (p + 16)) (name_at names (base + 32 * (c - 1) + 16))) (ltb a c)) (place-from a)
-      ∙ ap (λ (p : ℕ). smallerOr (compareNames (name_at names (namePlace d w k a + 16)) (name_at names (p + 16))) (ltb a c)) (place-from c)))
+      ap (λ (p : ℕ). smaller_or (compare_names (name_at names (p + 16)) (name_at names (base + 32 * (c - 1) + 16))) (ltb a c)) (place-from a)
+      ∙ ap (λ (p : ℕ). smaller_or (compare_names (name_at names (name_place d w k a + 16)) (name_at names (p + 16))) (ltb a c)) (place-from c)))
 
-  pub namesakes-from : (name : List ℕ) → sorted (beforeFrom names base) (passing (namedFrom names base name) d.customers) ≡ namesakes d names w k name
+  pub namesakes-from : (name : List ℕ) → sorted (before_from names base) (passing (named_from names base name) d.customers) ≡ namesakes d names w k name
   unfolding namesakes
   namesakes-from name =
-      ap (λ (f : ℕ → ℕ → Bool). sorted f (passing (namedFrom names base name) d.customers)) before-from
+      ap (λ (f : ℕ → ℕ → Bool). sorted f (passing (named_from names base name) d.customers)) before-from
       ∙ ap (λ (f : ℕ → Bool). sorted (before d names w k) (passing f d.customers)) (named-from name)
 
-  pub names-from : allTo d.customers (nameOkFrom names base) ≡ namesUsed d names w k
-  unfolding namesUsed nameOkFrom
-  names-from = ap (allTo d.customers) (fun_ext (λ c. ap (nameOk names) (place-from c)))
+  pub names-from : all_to d.customers (name_ok_from names base) ≡ names_used d names w k
+  unfolding names_used name_ok_from
+  names-from = ap (all_to d.customers) (fun_ext (λ c. ap (name_ok names) (place-from c)))
 
 -- ── what the search keeps, of the list of those passing so far ──
 module _ (names : List ℕ) (base : ℕ) where
-  from-total : (a b : ℕ) → beforeFrom names base a b ≡ false → (a ≡ b → ⊥) → beforeFrom names base b a ≡ true
-  unfolding beforeFrom
+  from-total : (a b : ℕ) → before_from names base a b ≡ false → (a ≡ b → ⊥) → before_from names base b a ≡ true
+  unfolding before_from
   from-total a b e n = order-total (λ c. name_at names (base + 32 * (c - 1) + 16)) a b e n
 
-  pub listed : (count : ℕ) (test : ℕ → Bool) (list : List ℕ) (n i : ℕ) → take n list ≡ sorted (beforeFrom names base) (passing test i) → base + 32 * count ≤ length names → count < 2 ^ 16 → n ≤ length list
+  pub listed : (count : ℕ) (test : ℕ → Bool) (list : List ℕ) (n i : ℕ) → take n list ≡ sorted (before_from names base) (passing test i) → base + 32 * count ≤ length names → count < 2 ^ 16 → n ≤ length list
       → i < count → Listed names base count list n (i + 1)
   listed count test list n i e r f m h =
       record {
@@ -63,14 +63,14 @@ module _ (names : List ℕ) (base : ℕ) where
         ordered = ordered;
       }
     where
-      s : length (sorted (beforeFrom names base) (passing test i)) ≡ n
+      s : length (sorted (before_from names base) (passing test i)) ≡ n
       s = ap length (sym e) ∙ length-take-le n list m
 
-      at : (j : ℕ) → j < n → get_or (sorted (beforeFrom names base) (passing test i)) j 0 ≡ get_or list j 0
+      at : (j : ℕ) → j < n → get_or (sorted (before_from names base) (passing test i)) j 0 ≡ get_or list j 0
       at j q = ap (λ (l : List ℕ). get_or l j 0) (sym e) ∙ get_or-take n list j 0 q
 
       numbers : (j : ℕ) → j < n → R count (get_or list j 0)
-      numbers j q = rw (at j q) at (sorted-at (beforeFrom names base) (R count) test i (λ c x y. record { lo = x.lo; hi = omega (arith, x.hi) }) j (rw s q))
+      numbers j q = rw (at j q) at (sorted-at (before_from names base) (R count) test i (λ c x y. record { lo = x.lo; hi = omega (arith, x.hi) }) j (rw s q))
 
-      ordered : (a b : ℕ) → a < b → b < n → beforeFrom names base (get_or list a 0) (get_or list b 0) ≡ true
-      ordered a b p q = rw (at a (omega arith), at b q) at (sorted-ordered (beforeFrom names base) (from-trans names base) from-total test i a b p (rw s q))
+      ordered : (a b : ℕ) → a < b → b < n → before_from names base (get_or list a 0) (get_or list b 0) ≡ true
+      ordered a b p q = rw (at a (omega arith), at b q) at (sorted-ordered (before_from names base) (from_trans names base) from-total test i a b p (rw s q))

@@ -9,11 +9,11 @@ use Rattle.model.specs.declared.Dims.{Dims}
 use Rattle.model.specs.declared.Selection.{Selection}
 use Rattle.model.specs.declared.Selection.TheVariants.{Number}
 use Rattle.model.specs.Tests.{every}
-use Rattle.model.specs.Names.{whoOf, whoTests, byNumber}
+use Rattle.model.specs.Names.{who_of, who_tests, by_number}
 use Rattle.model.specs.Claim.{R}
 use Rattle.model.proofs.TestLaws.{every-each}
 
-pub number_in : (d : Dims) (who : Selection) (name : List ℕ) (c : ℕ) → who ≡ Number c → every (whoTests d (whoOf who name)) ≡ true → R d.customers c
+pub number_in : (d : Dims) (who : Selection) (name : List ℕ) (c : ℕ) → who ≡ Number c → every (who_tests d (who_of who name)) ≡ true → R d.customers c
 number_in d who name c e h =
-    let t = every-each (whoTests d (byNumber c)) (ap (λ (x : Selection). every (whoTests d (whoOf x name))) (sym e) ∙ h) in
+    let t = every-each (who_tests d (by_number c)) (ap (λ (x : Selection). every (who_tests d (who_of x name))) (sym e) ∙ h) in
     record { lo = leb-true _ _ t.0; hi = leb-true _ _ t.1.0 }

@@ -2,34 +2,34 @@
 -- No rule of the book is here: proofs/Bridge joins each of these to the model's definition.
 -- Assumes nothing.
 use Rattle.std.specs.Prelude.{◌≡◌, Bool, true, false, cond, List, [], ◌∷◌, ℕ, suc, ◌+◌, ◌-◌, ◌*◌, ◌≤◌, ◌<◌, ◌^◌, ltb, length, get_or, take}
-use Rattle.model.specs.Names.{name_at, nameOk, compareNames, isEqual, smallerOr, sorted, passing}
+use Rattle.model.specs.Names.{name_at, name_ok, compare_names, is_equal, smaller_or, sorted, passing}
 use Rattle.model.specs.Claim.{R}
 use Rattle.lookup.specs.declared.Places.{Places}
 
-unfoldable pub namedFrom : List ℕ → ℕ → List ℕ → ℕ → Bool
-namedFrom names base name c = isEqual (compareNames (name_at names (base + 32 * (c - 1))) name)
+unfoldable pub named_from : List ℕ → ℕ → List ℕ → ℕ → Bool
+named_from names base name c = is_equal (compare_names (name_at names (base + 32 * (c - 1))) name)
 
 -- of the customers behind i, those up to r have other last names, and the one after them, where there is one, has this
 pub record Next (names : List ℕ) (base count : ℕ) (name : List ℕ) (i r : ℕ) : Type 0 where
   pub from : i ≤ r
   pub to : r ≤ count
-  pub others : (c : ℕ) → i < c → c ≤ r → namedFrom names base name c ≡ false
-  pub own : r < count → namedFrom names base name (r + 1) ≡ true
+  pub others : (c : ℕ) → i < c → c ≤ r → named_from names base name c ≡ false
+  pub own : r < count → named_from names base name (r + 1) ≡ true
 
-unfoldable pub beforeFrom : List ℕ → ℕ → ℕ → ℕ → Bool
-beforeFrom names base a c = smallerOr (compareNames (name_at names (base + 32 * (a - 1) + 16)) (name_at names (base + 32 * (c - 1) + 16))) (ltb a c)
+unfoldable pub before_from : List ℕ → ℕ → ℕ → ℕ → Bool
+before_from names base a c = smaller_or (compare_names (name_at names (base + 32 * (a - 1) + 16)) (name_at names (base + 32 * (c - 1) + 16))) (ltb a c)
 
-unfoldable pub nameOkFrom : List ℕ → ℕ → ℕ → Bool
-nameOkFrom names base c = nameOk names (base + 32 * (c - 1))
+unfoldable pub name_ok_from : List ℕ → ℕ → ℕ → Bool
+name_ok_from names base c = name_ok names (base + 32 * (c - 1))
 
 -- the first count customers of the district that have the last name, in order
-abbrev pub namesakesFrom : List ℕ → ℕ → List ℕ → ℕ → List ℕ
-namesakesFrom names base name count = sorted (beforeFrom names base) (passing (namedFrom names base name) count)
+abbrev pub namesakes_from : List ℕ → ℕ → List ℕ → ℕ → List ℕ
+namesakes_from names base name count = sorted (before_from names base) (passing (named_from names base name) count)
 
 -- where an insertion puts x, from 0
-abbrev pub insertPlace : (ℕ → ℕ → Bool) → ℕ → List ℕ → ℕ
-insertPlace comes x [] = 0
-insertPlace comes x (y ∷ ys) = cond (comes x y) 0 (suc (insertPlace comes x ys))
+abbrev pub insert_place : (ℕ → ℕ → Bool) → ℕ → List ℕ → ℕ
+insert_place comes x [] = 0
+insert_place comes x (y ∷ ys) = cond (comes x y) 0 (suc (insert_place comes x ys))
 
 -- the first n of a list are customers of the district in order, and c is a customer
 pub record Listed (names : List ℕ) (base count : ℕ) (list : List ℕ) (n c : ℕ) : Type 0 where
@@ -39,10 +39,10 @@ pub record Listed (names : List ℕ) (base count : ℕ) (list : List ℕ) (n c :
   pub low : 1 ≤ c
   pub high : c ≤ count
   pub numbers : (i : ℕ) → i < n → R count (get_or list i 0)
-  pub ordered : (i j : ℕ) → i < j → j < n → beforeFrom names base (get_or list i 0) (get_or list j 0) ≡ true
+  pub ordered : (i j : ℕ) → i < j → j < n → before_from names base (get_or list i 0) (get_or list j 0) ≡ true
 
 -- the place of c among the first n of a list is between the two ends
 pub record Holds (names : List ℕ) (base : ℕ) (list : List ℕ) (n c : ℕ) (at : Places) : Type 0 where
-  pub from : at.low ≤ insertPlace (beforeFrom names base) c (take n list)
-  pub to : insertPlace (beforeFrom names base) c (take n list) ≤ at.high
+  pub from : at.low ≤ insert_place (before_from names base) c (take n list)
+  pub to : insert_place (before_from names base) c (take n list) ≤ at.high
   pub within : at.high ≤ n

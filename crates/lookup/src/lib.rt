@@ -1,20 +1,22 @@
+#![tactic(auto)]
+
 ghost use Rattle.std.specs.Prelude.{◌≡◌, true, [], ◌∷◌, ◌++◌, ◌+◌, ◌-◌, ◌*◌, ◌≤◌, ◌<◌, ◌^◌, length, take, drop, replicate};
-ghost use Rattle.model.specs.Tests.{every, allTo};
-ghost use Rattle.model.specs.Layout.{nameBytes};
-ghost use Rattle.model.specs.Names.{padded, insert, found, whoOf, whoTests};
-ghost use Rattle.model.specs.Used.{customersUsed, namesUsed};
+ghost use Rattle.model.specs.Tests.{every, all_to};
+ghost use Rattle.model.specs.Layout.{name_bytes};
+ghost use Rattle.model.specs.Names.{padded, insert, found, who_of, who_tests};
+ghost use Rattle.model.specs.Used.{customers_used, names_used};
 ghost use Rattle.model.specs.Claim.{R};
 ghost use Rattle.model.proofs.Fields.{Dimensioned};
 ghost use Rattle.rows.specs.Book.{Booked};
-ghost use Rattle.lookup.specs.Listed.{namedFrom, Next, beforeFrom, namesakesFrom, nameOkFrom, insertPlace, Listed, Holds};
-ghost use Rattle.lookup.specs.Extremes.{least, most, Noted, extremesOk};
+ghost use Rattle.lookup.specs.Listed.{named_from, Next, before_from, namesakes_from, name_ok_from, insert_place, Listed, Holds};
+ghost use Rattle.lookup.specs.Extremes.{least, most, Noted, extremes_ok};
 
 use model::{Comparison, Dims, Found, Selection};
 
 // A customer has a last name, which is given with its 16 bytes.
 fn is_named(names: &[u8], base: u64, name: &[u8], c: u64) -> bool
     requires { (1 ≤ c) × ((base + 32 * c ≤ length names.now) × (length name.now ≡ 16)) }
-    ensures { result ≡ namedFrom names.now base name.now c }
+    ensures { result ≡ named_from names.now base name.now c }
 {
     let how = words::compare_names(names, base + 32 * (c - 1), name, 0);
     match how {
@@ -27,7 +29,7 @@ fn is_named(names: &[u8], base: u64, name: &[u8], c: u64) -> bool
 // Customer x comes before customer y, by first name and then number.
 fn comes_before(names: &[u8], base: u64, x: u64, y: u64) -> bool
     requires { (1 ≤ x) × ((1 ≤ y) × ((base + 32 * x ≤ length names.now) × (base + 32 * y ≤ length names.now))) }
-    ensures { result ≡ beforeFrom names.now base x y }
+    ensures { result ≡ before_from names.now base x y }
 {
     let how = words::compare_names(
         names,
@@ -70,7 +72,7 @@ fn halve(names: &[u8], base: u64, count: u64, list: &[u16], n: u64, c: u64, at: 
 // The place of customer c among the first n of a list of customers.
 fn place_of(names: &[u8], base: u64, count: u64, list: &[u16], n: u64, c: u64) -> u64
     requires { Listed names.now base count list.now n c }
-    ensures { (result ≡ insertPlace (beforeFrom names.now base) c (take n list.now)) × (result ≤ n) }
+    ensures { (result ≡ insert_place (before_from names.now base) c (take n list.now)) × (result ≤ n) }
 {
     let mut at = Places { low: 0, high: n };
     while at.low < at.high {
@@ -96,7 +98,7 @@ fn put_in(list: &mut [u16], n: u64, p: u64, c: u16)
 // Customer c inserted into the first n of a list.
 fn insert_in(names: &[u8], base: u64, count: u64, list: &mut [u16], n: u64, c: u64)
     requires { (n < length list.old) × Listed names.now base count list.old n c }
-    ensures { take (n + 1) list.new ≡ insert (beforeFrom names.now base) c (take n list.old) }
+    ensures { take (n + 1) list.new ≡ insert (before_from names.now base) c (take n list.old) }
 {
     let p = place_of(names, base, count, list, n, c);
     put_in(list, n, p, c as u16);
@@ -120,7 +122,7 @@ fn next_named(names: &[u8], base: u64, count: u64, name: &[u8], from: u64) -> u6
 // The customers with a last name, in order, at the front of a list; how many.
 fn gather(names: &[u8], base: u64, count: u64, name: &[u8], list: &mut [u16]) -> u64
     requires { (base + 32 * count ≤ length names.now) × ((count < 2 ^ 16) × ((length name.now ≡ 16) × (count ≤ length list.old))) }
-    ensures { (result ≤ count) × (take result list.new ≡ namesakesFrom names.now base name.now count) }
+    ensures { (result ≤ count) × (take result list.new ≡ namesakes_from names.now base name.now count) }
 {
     let mut n = 0;
     let mut i = next_named(names, base, count, name, 0);
@@ -151,7 +153,7 @@ fn wide(c: u16) -> u64
 
 // The customer of a district that a last name stands for.
 pub fn find(names: &[u8], d: Dims, w: u64, k: u64, name: &[u8]) -> Found
-    requires { Dimensioned d × (R d.warehouses w × (R 10 k × (length names.now ≡ nameBytes d))) }
+    requires { Dimensioned d × (R d.warehouses w × (R 10 k × (length names.now ≡ name_bytes d))) }
     ensures { result ≡ found d names.now w k name.now }
 {
     if name.len() < 1 {
@@ -206,7 +208,7 @@ fn note_name(names: &[u8], p: u64, low: &mut [u8; 32], high: &mut [u8; 32])
 
 // The least and the largest byte of each place are in range, and at the first the least is no space.
 fn extremes_ok(low: &[u8; 32], high: &[u8; 32]) -> bool
-    ensures { result ≡ extremesOk low.now high.now }
+    ensures { result ≡ extremes_ok low.now high.now }
 {
     let mut ok = true;
     for j in 0..32 {
@@ -218,7 +220,7 @@ fn extremes_ok(low: &[u8; 32], high: &[u8; 32]) -> bool
 // The names of a run of customers are in range, by the least and the largest byte at each place.
 fn names_ok(names: &[u8], base: u64, count: u64) -> bool
     requires { base + 32 * count ≤ length names.now }
-    ensures { result ≡ allTo count (nameOkFrom names.now base) }
+    ensures { result ≡ all_to count (name_ok_from names.now base) }
 {
     let mut low = [255u8; 32];
     let mut high = [0u8; 32];
@@ -230,15 +232,15 @@ fn names_ok(names: &[u8], base: u64, count: u64) -> bool
 
 // The names of all customers of a district are in range.
 pub fn names_used(names: &[u8], d: Dims, w: u64, k: u64) -> bool
-    requires { Dimensioned d × (R d.warehouses w × (R 10 k × (length names.now ≡ nameBytes d))) }
-    ensures { result ≡ namesUsed d names.now w k }
+    requires { Dimensioned d × (R d.warehouses w × (R 10 k × (length names.now ≡ name_bytes d))) }
+    ensures { result ≡ names_used d names.now w k }
 {
     names_ok(names, layout::name_base(d, w, k), d.customers)
 }
 
 // A customer given by number is one of the district's.
 pub fn who_ok(d: Dims, who: Selection, name: &[u8]) -> bool
-    ensures { result ≡ every (whoTests d (whoOf who name.now)) }
+    ensures { result ≡ every (who_tests d (who_of who name.now)) }
 {
     match who {
         Selection::Number(c) => cells::within(c, 1, d.customers),
@@ -248,8 +250,8 @@ pub fn who_ok(d: Dims, who: Selection, name: &[u8]) -> bool
 
 // What a search by name uses: the rows and names of all customers of a district are in range.
 pub fn named_used(b: &[i64], names: &[u8], d: Dims, w: u64, k: u64) -> bool
-    requires { Booked d b.now × (R d.warehouses w × (R 10 k × (length names.now ≡ nameBytes d))) }
-    ensures { result ≡ every (customersUsed d b.now w k ∷ namesUsed d names.now w k ∷ []) }
+    requires { Booked d b.now × (R d.warehouses w × (R 10 k × (length names.now ≡ name_bytes d))) }
+    ensures { result ≡ every (customers_used d b.now w k ∷ names_used d names.now w k ∷ []) }
 {
     rows::customers_used(b, d, w, k) & names_used(names, d, w, k)
 }

@@ -12,14 +12,14 @@ use lib.ListN.{length, get_or}
 use borrow.Author.Tests.{leb-true, eqb-true}
 use Rattle.model.specs.declared.Dims.{Dims}
 use Rattle.model.specs.Tests.{every}
-use Rattle.model.specs.Layout.{Shape, at, place, inside, total, shapes, numbers, nameBytes, none}
+use Rattle.model.specs.Layout.{Shape, at, place, inside, total, shapes, numbers, name_bytes, none}
 use Rattle.model.specs.Store.{get, num, from, row_of}
 use Rattle.model.specs.Numbers.{nat, cell}
 use Rattle.model.specs.Rows.{slot, line}
-use Rattle.model.specs.Head.{dims, dimsTests, sizeTests, headOk}
+use Rattle.model.specs.Head.{dims, dims_tests, size_tests, head_ok}
 use Rattle.model.specs.Claim.{R}
 use Rattle.model.proofs.TestLaws.{every-each, within_in}
-use Rattle.model.proofs.Places.{Valid, place-lt, place-start}
+use Rattle.model.proofs.Places.{Valid, place_lt, place-start}
 
 module _ (D : Dims) where
   pub v0 : (k : ℕ) → k < 6 → Valid (shapes D) (at 0 1 1 1 k)
@@ -47,9 +47,9 @@ module _ (D : Dims) where
   v7 r k h = omega arith
 
   -- the slot of an order number is a slot of the district, and no other number's
-  pub slot-in : {o : ℕ} → R D.orders o → R D.orders (slot D o)
+  pub slot_in : {o : ℕ} → R D.orders o → R D.orders (slot D o)
   unfolding slot
-  slot-in r = r
+  slot_in r = r
 
   pub slot_same : (o p : ℕ) → R D.orders o → R D.orders p → eqb (slot D o) (slot D p) ≡ eqb o p
   unfolding slot
@@ -65,14 +65,14 @@ row_read l b s x y z = fun_ext col
     col (suc k) = ap (λ (p : ℕ). get_or b p (pos 0)) (sym (place-start l (at s x y z (suc k))))
 
 -- a row from its start, by column
-pub from-col : (b : List ℤ) (p k : ℕ) → from b p k ≡ get_or b (p + k) (pos 0)
+pub from_col : (b : List ℤ) (p k : ℕ) → from b p k ≡ get_or b (p + k) (pos 0)
 unfolding from
-from-col b p zero = ap (λ (i : ℕ). get_or b i (pos 0)) (sym (add-zero p))
-from-col b p (suc k) = refl
+from_col b p zero = ap (λ (i : ℕ). get_or b i (pos 0)) (sym (add-zero p))
+from_col b p (suc k) = refl
 
 pub from_cell : (b : List ℤ) (p k : ℕ) → nat (from b p k) ≡ cell b (p + k)
 unfolding cell
-from_cell b p k = ap nat (from-col b p k)
+from_cell b p k = ap nat (from_col b p k)
 
 -- line j of the order that starts at p starts at p + (1 + 5 * j)
 pub line-from : (b : List ℤ) (p j : ℕ) → from b (p + (1 + 5 * j)) ≡ line (from b p) j
@@ -80,26 +80,26 @@ line-from b p j = fun_ext col
   where
     col : (k : ℕ) → from b (p + (1 + 5 * j)) k ≡ from b p (1 + 5 * j + k)
     col k =
-        from-col b (p + (1 + 5 * j)) k
+        from_col b (p + (1 + 5 * j)) k
         ∙ ap (λ (i : ℕ). get_or b i (pos 0)) (add_assoc p (1 + 5 * j) k)
-        ∙ sym (from-col b p (1 + 5 * j + k))
+        ∙ sym (from_col b p (1 + 5 * j + k))
 
 -- a row ends within the book
-pub row-end : (l : List Shape) (s x y z k : ℕ) → Valid l (at s x y z k) → suc k ≡ (get_or l s none).ks → place l (at s x y z 0) + (get_or l s none).ks ≤ total l
-row-end l s x y z k v e = omega (arith, place-lt l (at s x y z k) v, place-start l (at s x y z k))
+pub row_end : (l : List Shape) (s x y z k : ℕ) → Valid l (at s x y z k) → suc k ≡ (get_or l s none).ks → place l (at s x y z 0) + (get_or l s none).ks ≤ total l
+row_end l s x y z k v e = omega (arith, place_lt l (at s x y z k) v, place-start l (at s x y z k))
 
 -- ── the head ──
 pub record Dimensioned (d : Dims) : Type 0 where
-  pub warehouses-low : 1 ≤ d.warehouses
-  pub warehouses-high : d.warehouses ≤ 20
-  pub customers-low : 1 ≤ d.customers
-  pub customers-high : d.customers ≤ 3000
-  pub items-low : 1 ≤ d.items
-  pub items-high : d.items ≤ 100000
-  pub orders-low : 1 ≤ d.orders
-  pub orders-high : d.orders ≤ 10000
-  pub histories-low : 1 ≤ d.histories
-  pub histories-high : d.histories ≤ 1000000
+  pub warehouses_low : 1 ≤ d.warehouses
+  pub warehouses_high : d.warehouses ≤ 20
+  pub customers_low : 1 ≤ d.customers
+  pub customers_high : d.customers ≤ 3000
+  pub items_low : 1 ≤ d.items
+  pub items_high : d.items ≤ 100000
+  pub orders_low : 1 ≤ d.orders
+  pub orders_high : d.orders ≤ 10000
+  pub histories_low : 1 ≤ d.histories
+  pub histories_high : d.histories ≤ 1000000
 
 -- the head is in range, and both lengths are what it implies; n is the number of name bytes
 pub record Shaped (d : Dims) (b : List ℤ) (n : ℕ) : Type 0 where
@@ -107,12 +107,12 @@ pub record Shaped (d : Dims) (b : List ℤ) (n : ℕ) : Type 0 where
   pub long : length b ≡ numbers d
   pub six : 6 ≤ length b
   pub count : cell b 5 ≤ d.histories
-  pub names : n ≡ nameBytes d
+  pub names : n ≡ name_bytes d
 
-pub dims-are : (d : Dims) → every (dimsTests d) ≡ true → Dimensioned d
-unfolding dimsTests
-dims-are d e =
-    let h = every-each (dimsTests d) e in
+pub dims_are : (d : Dims) → every (dims_tests d) ≡ true → Dimensioned d
+unfolding dims_tests
+dims_are d e =
+    let h = every-each (dims_tests d) e in
     let w = within_in d.warehouses 1 20 h.0 in
     let c = within_in d.customers 1 3000 h.1.0 in
     let i = within_in d.items 1 100000 h.1.1.0 in
@@ -120,25 +120,25 @@ dims-are d e =
     let t = within_in d.histories 1 1000000 h.1.1.1.1.0 in
     omega (arith, w, c, i, o, t)
 
-pub head-shaped : (b : List ℤ) (n : ℕ) → headOk b n ≡ true → Shaped (dims b) b n
-unfolding headOk sizeTests
+pub head-shaped : (b : List ℤ) (n : ℕ) → head_ok b n ≡ true → Shaped (dims b) b n
+unfolding head_ok size_tests
 head-shaped b n e =
-    let h = every-each (leb 6 (length b) ∷ every (dimsTests (dims b)) ∷ every (sizeTests (dims b) b n) ∷ []) e in
-    let s = every-each (sizeTests (dims b) b n) h.1.1.0 in
-    record { dimsd = dims-are (dims b) h.1.0; long = eqb-true _ _ s.1.0; six = leb-true _ _ h.0; count = leb-true _ _ s.0; names = eqb-true _ _ s.1.1.0 }
+    let h = every-each (leb 6 (length b) ∷ every (dims_tests (dims b)) ∷ every (size_tests (dims b) b n) ∷ []) e in
+    let s = every-each (size_tests (dims b) b n) h.1.1.0 in
+    record { dimsd = dims_are (dims b) h.1.0; long = eqb-true _ _ s.1.0; six = leb-true _ _ h.0; count = leb-true _ _ s.0; names = eqb-true _ _ s.1.1.0 }
 
 -- ── a number at an address, as code reads it from its row's start ──
 module _ (l : List Shape) (b : List ℤ) (s x y z k : ℕ) where
-  pub place-col : place l (at s x y z 0) + k ≡ place l (at s x y z k)
-  place-col = sym (place-start l (at s x y z k))
+  pub place_col : place l (at s x y z 0) + k ≡ place l (at s x y z k)
+  place_col = sym (place-start l (at s x y z k))
 
-  pub num-col : cell b (place l (at s x y z 0) + k) ≡ num l b (at s x y z k)
+  pub num_col : cell b (place l (at s x y z 0) + k) ≡ num l b (at s x y z k)
   unfolding cell get
-  num-col = ap (λ (p : ℕ). nat (get_or b p (pos 0))) place-col
+  num_col = ap (λ (p : ℕ). nat (get_or b p (pos 0))) place_col
 
-  pub get-col : get_or b (place l (at s x y z 0) + k) (pos 0) ≡ get l b (at s x y z k)
+  pub get_col : get_or b (place l (at s x y z 0) + k) (pos 0) ≡ get l b (at s x y z k)
   unfolding get
-  get-col = ap (λ (p : ℕ). get_or b p (pos 0)) place-col
+  get_col = ap (λ (p : ℕ). get_or b p (pos 0)) place_col
 
 -- the head's numbers stand at their column
 pub head-place : (d : Dims) → place (shapes d) (at 0 1 1 1 5) ≡ 5

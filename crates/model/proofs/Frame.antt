@@ -12,7 +12,7 @@ use lib.ListN.{length, get_or, set, length-set}
 use lib.Seq.{get_or-set_same, get_or-set_other}
 use Rattle.model.specs.Layout.{Shape, Addr, at, place, total, none}
 use Rattle.model.specs.Store.{get, remap, Op, one, row, op, run}
-use Rattle.model.proofs.Places.{Valid, same, place-lt, rowSame, start, place-start, true_same, same_place, false-place, row-true, row_inside}
+use Rattle.model.proofs.Places.{Valid, same, place_lt, row_same, start, place-start, true_same, same_place, false-place, row-true, row_inside}
 
 pub length-remap : (p n k : ℕ) (f : ℕ → ℤ → ℤ) (b : List ℤ) → length (remap p n k f b) ≡ length b
 unfolding remap
@@ -37,21 +37,21 @@ remap-after zero zero k f (z ∷ b) j h = refl
 remap-after zero (suc n) k f (z ∷ b) zero h = let q : ◌≡◌ {A = ℕ} 0 1 = omega arith in absurd (omega arith)
 remap-after zero (suc n) k f (z ∷ b) (suc j) h = remap-after zero n (suc k) f b j (omega arith)
 
-remap-in : (p n k : ℕ) (f : ℕ → ℤ → ℤ) (b : List ℤ) (j : ℕ) → p + j < length b → j < n
+remap_in : (p n k : ℕ) (f : ℕ → ℤ → ℤ) (b : List ℤ) (j : ℕ) → p + j < length b → j < n
     → get_or (remap p n k f b) (p + j) (pos 0) ≡ f (k + j) (get_or b (p + j) (pos 0))
 unfolding remap
-remap-in p n k f [] j h g = absurd (not-suc-le-zero h)
-remap-in (suc p) n k f (z ∷ b) j h g = rw (suc-add p j) (remap-in p n k f b j (omega arith) g)
-remap-in zero zero k f (z ∷ b) j h g = absurd (not-suc-le-zero g)
-remap-in zero (suc n) k f (z ∷ b) zero h g = ap (λ (m : ℕ). f m z) (sym (add-zero k))
-remap-in zero (suc n) k f (z ∷ b) (suc j) h g =
-    let ih = remap-in zero n (suc k) f b j (omega arith) (omega arith) in
+remap_in p n k f [] j h g = absurd (not-suc-le-zero h)
+remap_in (suc p) n k f (z ∷ b) j h g = rw (suc-add p j) (remap_in p n k f b j (omega arith) g)
+remap_in zero zero k f (z ∷ b) j h g = absurd (not-suc-le-zero g)
+remap_in zero (suc n) k f (z ∷ b) zero h g = ap (λ (m : ℕ). f m z) (sym (add-zero k))
+remap_in zero (suc n) k f (z ∷ b) (suc j) h g =
+    let ih = remap_in zero n (suc k) f b j (omega arith) (omega arith) in
     rw (zero-add (suc j), add-suc k j) (simp (zero-add, suc-add) at ih)
 
 -- what a change makes of the number at an address
 abbrev pub seen1 : Addr → Op → ℤ → ℤ
 seen1 a (one g f) v = cond (same a g) (f v) v
-seen1 a (row g f) v = cond (rowSame a g) (f a.k v) v
+seen1 a (row g f) v = cond (row_same a g) (f a.k v) v
 
 abbrev pub target : Op → Addr
 target (one g f) = g
@@ -81,7 +81,7 @@ get-one l b a g f n va vg = go (same a g) refl
   where
     go : (t : Bool) → same a g ≡ t
         → get_or (set b (place l g) (f (get l b g))) (place l a) (pos 0) ≡ cond t (f (get_or b (place l a) (pos 0))) (get_or b (place l a) (pos 0))
-    go true e = rw (same_place l a g (true_same a g e)) (get_or-set_same b (place l g) (f (get l b g)) (pos 0) (omega (arith, place-lt l g vg)))
+    go true e = rw (same_place l a g (true_same a g e)) (get_or-set_same b (place l g) (f (get l b g)) (pos 0) (omega (arith, place_lt l g vg)))
     go false e = get_or-set_other b (place l g) (place l a) (f (get l b g)) (pos 0) (false-place l a g va vg e)
 
 clash : {X : Type 0} (t : Bool) → t ≡ true → t ≡ false → X
@@ -89,9 +89,9 @@ clash true e e' = let z : ◌≡◌ {A = ℕ} 0 1 = cc in absurd (omega arith)
 clash false e e' = let z : ◌≡◌ {A = ℕ} 0 1 = cc in absurd (omega arith)
 
 pub get-row : (l : List Shape) (b : List ℤ) (a g : Addr) (f : ℕ → ℤ → ℤ) → length b ≡ total l → Valid l a → Valid l g → g.k ≡ 0
-    → get l (op l (row g f) b) a ≡ cond (rowSame a g) (f a.k (get l b a)) (get l b a)
+    → get l (op l (row g f) b) a ≡ cond (row_same a g) (f a.k (get l b a)) (get l b a)
 unfolding get op
-get-row l b a g f n va vg z = go (rowSame a g) refl
+get-row l b a g f n va vg z = go (row_same a g) refl
   where
     ks : ℕ
     ks = (get_or l g.s none).ks
@@ -99,20 +99,20 @@ get-row l b a g f n va vg z = go (rowSame a g) refl
     pg : place l g ≡ place l (start g)
     pg = place-start l g ∙ omega arith
 
-    go : (t : Bool) → rowSame a g ≡ t
+    go : (t : Bool) → row_same a g ≡ t
         → get_or (remap (place l g) ks 0 f b) (place l a) (pos 0) ≡ cond t (f a.k (get_or b (place l a) (pos 0))) (get_or b (place l a) (pos 0))
     go true e =
         let sm = row-true a g e in
         let pa : place l a ≡ place l g + a.k = omega (arith, place-start l a, same_place l (start a) (start g) sm, pg) in
         let kk : a.k < ks = subst (λ (i : ℕ). a.k < (get_or l i none).ks) sm.s va.row.k2 in
-        let lt : place l g + a.k < length b = omega (arith, place-lt l a va) in
-        rw pa (remap-in (place l g) ks 0 f b a.k lt kk ∙ ap (λ (i : ℕ). f i (get_or b (place l g + a.k) (pos 0))) (zero-add a.k))
+        let lt : place l g + a.k < length b = omega (arith, place_lt l a va) in
+        rw pa (remap_in (place l g) ks 0 f b a.k lt kk ∙ ap (λ (i : ℕ). f i (get_or b (place l g + a.k) (pos 0))) (zero-add a.k))
     go false e = out (dec_lt (place l a) (place l g)) (dec_lt (place l a) (place l g + ks))
       where
         out : Dec (place l a < place l g) → Dec (place l a < place l g + ks)
             → get_or (remap (place l g) ks 0 f b) (place l a) (pos 0) ≡ get_or b (place l a) (pos 0)
         out (yes h) d = remap-before (place l g) ks 0 f b (place l a) h
-        out (no h) (yes h') = clash (rowSame a g) (row_inside l a g (place l a - place l g) va vg (omega arith) (omega (arith, pg))) e
+        out (no h) (yes h') = clash (row_same a g) (row_inside l a g (place l a - place l g) va vg (omega arith) (omega (arith, pg))) e
         out (no h) (no h') = remap-after (place l g) ks 0 f b (place l a) (omega arith)
 
 pub get-op : (l : List Shape) (b : List ℤ) (a : Addr) (o : Op) → length b ≡ total l → Valid l a → Valid l (target o) → at_start o

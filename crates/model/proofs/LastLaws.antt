@@ -17,23 +17,23 @@ use Rattle.model.specs.declared.Line.{Line}
 use Rattle.model.specs.declared.Payment.{Payment}
 use Rattle.model.specs.Numbers.{nat}
 use Rattle.model.specs.Lists.{largest}
-use Rattle.model.specs.Layout.{shapes, place, perCustomer, ofCustomer}
+use Rattle.model.specs.Layout.{shapes, place, per_customer, of_customer}
 use Rattle.model.specs.Store.{get, num, run}
-use Rattle.model.specs.Rows.{nextOrder, orderCustomer}
-use Rattle.model.specs.Claim.{R, lastOrder}
-use Rattle.model.specs.LastOrder.{last_at, lastLong, lastOk, foundOk, lastOps}
-use Rattle.model.specs.Tally.{Tally, Order, N, is2, start, tallyLines, tallyOrder, tallyDistrict, tallyDistricts, tallyPayment}
+use Rattle.model.specs.Rows.{next_order, order_customer}
+use Rattle.model.specs.Claim.{R, last_order}
+use Rattle.model.specs.LastOrder.{last_at, last_long, last_ok, found_ok, last_ops}
+use Rattle.model.specs.Tally.{Tally, Order, N, is2, start, tally_lines, tally_order, tally_district, tally_districts, tally_payment}
 use Rattle.model.proofs.TestLaws.{all-to}
 use Rattle.model.proofs.NumberLaws.{nat-pos}
-use Rattle.model.proofs.Places.{Valid, place-lt}
+use Rattle.model.proofs.Places.{Valid, place_lt}
 use Rattle.model.proofs.Frame.{length_run, get-run}
-use Rattle.model.proofs.ListLaws.{largest-in, largest-same}
+use Rattle.model.proofs.ListLaws.{largest_in, largest-same}
 use Rattle.model.proofs.RowFacts.{in_order}
 use Rattle.model.proofs.Parts.{hit2, and_no, no_order}
 use Rattle.model.proofs.StepDeliver.{next-num}
-use Rattle.model.proofs.Sane.{lines-leave}
+use Rattle.model.proofs.Sane.{lines_leave}
 use Rattle.model.proofs.Calls.{Good}
-use Rattle.model.proofs.Never.{orders-in}
+use Rattle.model.proofs.Never.{orders_in}
 
 -- ── the last order of a customer in a list ──
 -- the largest place, from 1, whose order is the customer's; 0 for none
@@ -44,14 +44,14 @@ pub last_none : (c : ℕ) → last_of c [] ≡ 0
 unfolding last_of largest
 last_none c = refl
 
-pub last-le : (c : ℕ) (os : List Order) → last_of c os ≤ length os
+pub last_le : (c : ℕ) (os : List Order) → last_of c os ≤ length os
 unfolding last_of
-last-le c os = largest-in (λ j. eqb c (get_or os (j - 1) no_order).customer) (length os)
+last_le c os = largest_in (λ j. eqb c (get_or os (j - 1) no_order).customer) (length os)
 
 -- an order joins
-pub last-append : (c : ℕ) (os : List Order) (o : Order) → last_of c (os ++ (o ∷ [])) ≡ cond (eqb c o.customer) (suc (length os)) (last_of c os)
+pub last_append : (c : ℕ) (os : List Order) (o : Order) → last_of c (os ++ (o ∷ [])) ≡ cond (eqb c o.customer) (suc (length os)) (last_of c os)
 unfolding last_of largest
-last-append c os o =
+last_append c os o =
     ap (largest (f (os ++ (o ∷ [])))) (length-append os (o ∷ []) ∙ add-one (length os))
     ∙ (λ i. cond (seam i) (suc (length os)) (before i))
   where
@@ -71,16 +71,16 @@ pub record Lasts (D : Dims) (t : Tally) (last : List ℤ) : Type 0 where
   pub long : length last ≡ 10 * D.warehouses * D.customers
   pub each : (w k c : ℕ) → R D.warehouses w → R 10 k → R D.customers c → last_at D last w k c ≡ pos (last_of c (t.orders w k))
 
-customer-valid : (D : Dims) {w k c : ℕ} → R D.warehouses w → R 10 k → R D.customers c → Valid (perCustomer D) (ofCustomer w k c)
-customer-valid D r s u = omega arith
+customer_valid : (D : Dims) {w k c : ℕ} → R D.warehouses w → R 10 k → R D.customers c → Valid (per_customer D) (of_customer w k c)
+customer_valid D r s u = omega arith
 
 pub lasts-start : (D : Dims) → Lasts D start (replicate (10 * D.warehouses * D.customers) (pos 0))
 unfolding start get
 lasts-start D = record {
   long = length-replicate (10 * D.warehouses * D.customers) (pos 0);
   each = λ w k c r s u.
-      get_or-replicate (10 * D.warehouses * D.customers) (place (perCustomer D) (ofCustomer w k c)) (pos 0) (pos 0)
-      (omega (arith, place-lt (perCustomer D) (ofCustomer w k c) (customer-valid D r s u)))
+      get_or-replicate (10 * D.warehouses * D.customers) (place (per_customer D) (of_customer w k c)) (pos 0) (pos 0)
+      (omega (arith, place_lt (per_customer D) (of_customer w k c) (customer_valid D r s u)))
       ∙ ap pos (sym (last_none c));
 }
 
@@ -88,26 +88,26 @@ lasts-start D = record {
 pub lasts-kept : (D : Dims) (t t' : Tally) (last : List ℤ) → t'.orders ≡ t.orders → Lasts D t last → Lasts D t' last
 lasts-kept D t t' last e l = record { long = l.long; each = λ w k c r s u. l.each w k c r s u ∙ ap (λ (f : ℕ → ℕ → List Order). pos (last_of c (f w k))) (sym e) }
 
-pub lasts-lines : (D : Dims) (ls : List Line) (t : Tally) (last : List ℤ) → Lasts D t last → Lasts D (tallyLines ls t) last
-lasts-lines D ls t last l = lasts-kept D t (tallyLines ls t) last (lines-leave ls t).orders l
+pub lasts-lines : (D : Dims) (ls : List Line) (t : Tally) (last : List ℤ) → Lasts D t last → Lasts D (tally_lines ls t) last
+lasts-lines D ls t last l = lasts-kept D t (tally_lines ls t) last (lines_leave ls t).orders l
 
-pub lasts-districts : (D : Dims) (w n : ℕ) (t : Tally) (last : List ℤ) → Lasts D t last → Lasts D (tallyDistricts w n t) last
-unfolding tallyDistrict
-lasts-districts D w zero t last l = l
-lasts-districts D w (suc n) t last l = lasts-kept D (tallyDistricts w n t) (tallyDistricts w (suc n) t) last refl (lasts-districts D w n t last l)
+pub lasts_districts : (D : Dims) (w n : ℕ) (t : Tally) (last : List ℤ) → Lasts D t last → Lasts D (tally_districts w n t) last
+unfolding tally_district
+lasts_districts D w zero t last l = l
+lasts_districts D w (suc n) t last l = lasts-kept D (tally_districts w n t) (tally_districts w (suc n) t) last refl (lasts_districts D w n t last l)
 
-pub lasts-pay : (D : Dims) (q : Payment) (c : ℕ) (t : Tally) (last : List ℤ) → Lasts D t last → Lasts D (tallyPayment q c t) last
-unfolding tallyPayment
-lasts-pay D q c t last l = lasts-kept D t (tallyPayment q c t) last refl l
+pub lasts_pay : (D : Dims) (q : Payment) (c : ℕ) (t : Tally) (last : List ℤ) → Lasts D t last → Lasts D (tally_payment q c t) last
+unfolding tally_payment
+lasts_pay D q c t last l = lasts-kept D t (tally_payment q c t) last refl l
 
 -- an order joins: this number and no other
 pub lasts-order : (D : Dims) (t : Tally) (last : List ℤ) (w₀ k₀ n : ℕ) (o : Order) → R D.warehouses w₀ → R 10 k₀ → R D.customers o.customer → n ≡ suc (N t w₀ k₀)
-    → Lasts D t last → Lasts D (tallyOrder w₀ k₀ o t) (run (perCustomer D) (lastOps w₀ k₀ o.customer n) last)
-unfolding tallyOrder
+    → Lasts D t last → Lasts D (tally_order w₀ k₀ o t) (run (per_customer D) (last_ops w₀ k₀ o.customer n) last)
+unfolding tally_order
 lasts-order D t last w₀ k₀ n o r₀ s₀ u₀ en l = record {
-  long = length_run (perCustomer D) (lastOps w₀ k₀ o.customer n) last ∙ l.long;
+  long = length_run (per_customer D) (last_ops w₀ k₀ o.customer n) last ∙ l.long;
   each = λ w k c r s u.
-      get-run (perCustomer D) (lastOps w₀ k₀ o.customer n) last (ofCustomer w k c) (omega (arith, l.long)) (customer-valid D r₀ s₀ u₀, tt, tt) (customer-valid D r s u)
+      get-run (per_customer D) (last_ops w₀ k₀ o.customer n) last (of_customer w k c) (omega (arith, l.long)) (customer_valid D r₀ s₀ u₀, tt, tt) (customer_valid D r s u)
       ∙ go w k c (l.each w k c r s u) (is2 w₀ k₀ w k) refl;
 }
   where
@@ -120,7 +120,7 @@ lasts-order D t last w₀ k₀ n o r₀ s₀ u₀ en l = record {
     go w k c e false h = ap (λ (y : Bool). cond y (pos n) (last_at D last w k c)) (and_no (eqb c o.customer)) ∙ e
     go w k c e true h =
         mine (eqb c o.customer) (suc (N t w k)) (last_of c (t.orders w k)) (hit2 (λ w k. n ≡ suc (N t w k)) w₀ k₀ w k h en) e
-        ∙ ap pos (sym (last-append c (t.orders w k) o))
+        ∙ ap pos (sym (last_append c (t.orders w k) o))
 
 -- ── the book and the slice ──
 eqb_swap : (a b : ℕ) → eqb a b ≡ eqb b a
@@ -131,15 +131,15 @@ eqb_swap a b = go (ℕ_discrete a b)
     go (no n) = ne_eqb a b n ∙ sym (ne_eqb b a (λ e. n (sym e)))
 
 module _ (D : Dims) (b₀ : List ℤ) (t : Tally) (b : List ℤ) (g : Good D b₀ t b) (w k : ℕ) (r : R D.warehouses w) (s : R 10 k) where
-  before-next : num (shapes D) b (nextOrder w k) - 1 ≡ N t w k
+  before-next : num (shapes D) b (next_order w k) - 1 ≡ N t w k
   before-next = omega (arith, next-num D b₀ t b g.agrees w k r s)
 
   -- the scan of the book
-  pub scan-is : (c : ℕ) → lastOrder D b w k c ≡ last_of c (t.orders w k)
-  unfolding lastOrder last_of
-  scan-is c = ap (largest (λ o. eqb (num (shapes D) b (orderCustomer D w k o)) c)) before-next ∙ largest-same _ _ (N t w k) at
+  pub scan-is : (c : ℕ) → last_order D b w k c ≡ last_of c (t.orders w k)
+  unfolding last_order last_of
+  scan-is c = ap (largest (λ o. eqb (num (shapes D) b (order_customer D w k o)) c)) before-next ∙ largest-same _ _ (N t w k) at
     where
-      at : (o : ℕ) → R (N t w k) o → eqb (num (shapes D) b (orderCustomer D w k o)) c ≡ eqb c (get_or (t.orders w k) (o - 1) no_order).customer
+      at : (o : ℕ) → R (N t w k) o → eqb (num (shapes D) b (order_customer D w k o)) c ≡ eqb c (get_or (t.orders w k) (o - 1) no_order).customer
       at zero q = absurd (omega (arith, q.lo))
       at (suc j) q =
           let x : Order = get_or (t.orders w k) j no_order in
@@ -149,34 +149,34 @@ module _ (D : Dims) (b₀ : List ℤ) (t : Tally) (b : List ℤ) (g : Good D b�
           ∙ eqb_swap x.customer c
           ∙ ap (λ (i : ℕ). eqb c (get_or (t.orders w k) i no_order).customer) e
 
-  found-le : (o : ℕ) → o ≤ N t w k → foundOk D b w k o ≡ true
-  unfolding foundOk
-  found-le zero h = refl
-  found-le (suc o) h = in_order D b w k (suc o) (orders-in D b₀ t b g w k r s (suc o) (record { lo = omega arith; hi = omega (arith, before-next) }))
+  found_le : (o : ℕ) → o ≤ N t w k → found_ok D b w k o ≡ true
+  unfolding found_ok
+  found_le zero h = refl
+  found_le (suc o) h = in_order D b w k (suc o) (orders_in D b₀ t b g w k r s (suc o) (record { lo = omega arith; hi = omega (arith, before-next) }))
 
   module _ (last : List ℤ) (l : Lasts D t last) where
     number_is : (c : ℕ) → R D.customers c → nat (last_at D last w k c) ≡ last_of c (t.orders w k)
     number_is c u = ap nat (l.each w k c r s u) ∙ nat-pos (last_of c (t.orders w k))
 
     -- "each number is the one the scan would find"
-    pub lasts-scan : (c : ℕ) → R D.customers c → last_at D last w k c ≡ pos (lastOrder D b w k c)
+    pub lasts-scan : (c : ℕ) → R D.customers c → last_at D last w k c ≡ pos (last_order D b w k c)
     lasts-scan c u = l.each w k c r s u ∙ ap pos (sym (scan-is c))
 
     -- a New-Order: its lines, then the order
-    pub lasts-new : (ls : List Line) (o : Order) → R D.customers o.customer
-        → Lasts D (tallyOrder w k o (tallyLines ls t)) (run (perCustomer D) (lastOps w k o.customer (num (shapes D) b (nextOrder w k))) last)
-    lasts-new ls o u =
-        let en : N (tallyLines ls t) w k ≡ N t w k = ap (λ (f : ℕ → ℕ → List Order). length (f w k)) (lines-leave ls t).orders in
-        lasts-order D (tallyLines ls t) last w k (num (shapes D) b (nextOrder w k)) o r s u (next-num D b₀ t b g.agrees w k r s ∙ ap suc (sym en)) (lasts-lines D ls t last l)
+    pub lasts_new : (ls : List Line) (o : Order) → R D.customers o.customer
+        → Lasts D (tally_order w k o (tally_lines ls t)) (run (per_customer D) (last_ops w k o.customer (num (shapes D) b (next_order w k))) last)
+    lasts_new ls o u =
+        let en : N (tally_lines ls t) w k ≡ N t w k = ap (λ (f : ℕ → ℕ → List Order). length (f w k)) (lines_leave ls t).orders in
+        lasts-order D (tally_lines ls t) last w k (num (shapes D) b (next_order w k)) o r s u (next-num D b₀ t b g.agrees w k r s ∙ ap suc (sym en)) (lasts-lines D ls t last l)
 
     -- what 13 tests holds
-    pub lasts-ok : lastOk D b last w k ≡ true
-    unfolding lastOk
-    lasts-ok = all-to _ D.customers (λ c u. le-leb (nat (last_at D last w k c)) _ (omega (arith, number_is c u, last-le c (t.orders w k), before-next)))
+    pub lasts-ok : last_ok D b last w k ≡ true
+    unfolding last_ok
+    lasts-ok = all-to _ D.customers (λ c u. le-leb (nat (last_at D last w k c)) _ (omega (arith, number_is c u, last_le c (t.orders w k), before-next)))
 
-    pub lasts-found : (c : ℕ) → R D.customers c → foundOk D b w k (nat (last_at D last w k c)) ≡ true
-    lasts-found c u = rw (number_is c u) (found-le (last_of c (t.orders w k)) (last-le c (t.orders w k)))
+    pub lasts-found : (c : ℕ) → R D.customers c → found_ok D b w k (nat (last_at D last w k c)) ≡ true
+    lasts-found c u = rw (number_is c u) (found_le (last_of c (t.orders w k)) (last_le c (t.orders w k)))
 
-pub lasts-long : (D : Dims) (t : Tally) (last : List ℤ) → Lasts D t last → lastLong D last ≡ true
-unfolding lastLong
+pub lasts-long : (D : Dims) (t : Tally) (last : List ℤ) → Lasts D t last → last_long D last ≡ true
+unfolding last_long
 lasts-long D t last l = eq-eqb _ _ l.long

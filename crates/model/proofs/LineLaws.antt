@@ -11,35 +11,35 @@ use native.Mathlib.Omega.{arith}
 use borrow.Author.Tests.{lt-ltb, le-leb, leb-true, eq-eqb, eqb-true, ltb-true}
 use Rattle.model.specs.declared.Line.{Line}
 use Rattle.model.specs.Tests.{every, all_of}
-use Rattle.model.specs.Names.{Who, byNumber, byName}
-use Rattle.model.specs.Request.{Request, newOrder, payment, delivery, orderStatus, stockLevel}
-use Rattle.model.specs.Text.{is_number, value_of, hasDigits, decimal, joined, lineText, parted}
-use Rattle.model.specs.RequestLine.{isPrintable, isName, isWho, whoRead, hasWho, whoField, lineSmall, hasForm, letter, lineFields, fields_of, line_of, read, noForm, readIf, field, number_in, lines_read, readNewOrder, readPayment, readDelivery, readOrderStatus, readStockLevel, readFields, readParted, readLine}
+use Rattle.model.specs.Names.{Who, by_number, by_name}
+use Rattle.model.specs.Request.{Request, new_order, payment, delivery, order_status, stock_level}
+use Rattle.model.specs.Text.{is_number, value_of, has_digits, decimal, joined, line_text, parted}
+use Rattle.model.specs.RequestLine.{is_printable, is_name, is_who, who_read, has_who, who_field, line_small, has_form, letter, line_fields, fields_of, line_of, read, no_form, read_if, field, number_in, lines_read, read_new_order, read_payment, read_delivery, read_order_status, read_stock_level, read_fields, read_parted, read_line}
 use Rattle.model.proofs.TestLaws.{and_left, and_right, and_both, every-each}
-use Rattle.model.proofs.DecimalLaws.{number-written, value_written, number_read}
+use Rattle.model.proofs.DecimalLaws.{number_written, value_written, number_read}
 use Rattle.model.proofs.TextLaws.{all_map, without, other, number-plain, parted-joined, joined-parted}
 
-clash : {X : Type 0} {r : Request} → noForm ≡ read r → X
+clash : {X : Type 0} {r : Request} → no_form ≡ read r → X
 clash e = absurd (let z : ◌≡◌ {A = ℕ} 0 1 = cc in omega arith)
 
 no : {X : Type 0} → false ≡ true → X
 no e = absurd (let z : ◌≡◌ {A = ℕ} 0 1 = cc in omega arith)
 
-pub name-plain : (f : List ℕ) → isName f ≡ true → without 9 f ≡ true
-unfolding isName
+pub name-plain : (f : List ℕ) → is_name f ≡ true → without 9 f ≡ true
+unfolding is_name
 name-plain f e =
-    all_map isPrintable (λ x. not (eqb x 9)) (λ x h. other 9 x (omega (arith, leb-true 32 x (and_left (leb 32 x) (leb x 126) h)))) f
-    (every-each (leb 1 (length f) ∷ leb (length f) 16 ∷ all_of isPrintable f ∷ not (eqb (get_or f 0 0) 32) ∷ not (eqb (get_or f (length f - 1) 0) 32) ∷ []) e).1.1.0
+    all_map is_printable (λ x. not (eqb x 9)) (λ x h. other 9 x (omega (arith, leb-true 32 x (and_left (leb 32 x) (leb x 126) h)))) f
+    (every-each (leb 1 (length f) ∷ leb (length f) 16 ∷ all_of is_printable f ∷ not (eqb (get_or f 0 0) 32) ∷ not (eqb (get_or f (length f - 1) 0) 32) ∷ []) e).1.1.0
 
-pub who-plain : (f : List ℕ) → isWho f ≡ true → without 9 f ≡ true
-unfolding isWho
+pub who-plain : (f : List ℕ) → is_who f ≡ true → without 9 f ≡ true
+unfolding is_who
 who-plain [] e = refl
 who-plain (x ∷ f) e = go (eqb x 35) refl e
   where
-    go : (t : Bool) → eqb x 35 ≡ t → cond t (is_number f) (eqb x 61 && isName f) ≡ true → (not (eqb x 9) && without 9 f) ≡ true
+    go : (t : Bool) → eqb x 35 ≡ t → cond t (is_number f) (eqb x 61 && is_name f) ≡ true → (not (eqb x 9) && without 9 f) ≡ true
     go true p h = and_both (not (eqb x 9)) (without 9 f) (other 9 x (omega (arith, eqb-true x 35 p))) (number-plain 9 (omega arith) f h)
     go false p h =
-        and_both (not (eqb x 9)) (without 9 f) (other 9 x (omega (arith, eqb-true x 61 (and_left (eqb x 61) (isName f) h)))) (name-plain f (and_right (eqb x 61) (isName f) h))
+        and_both (not (eqb x 9)) (without 9 f) (other 9 x (omega (arith, eqb-true x 61 (and_left (eqb x 61) (is_name f) h)))) (name-plain f (and_right (eqb x 61) (is_name f) h))
 
 -- a number of at most ten digits is read back
 value-back : (n : ℕ) → n < 10000000000 → value_of (decimal n) ≡ n
@@ -47,26 +47,26 @@ value-back n h = value_written n (omega arith)
 
 -- ── who ──
 pub record WhoWritten (w : Who) : Type 0 where
-  pub form : isWho (whoField w) ≡ true
-  pub back : whoRead (whoField w) ≡ w
+  pub form : is_who (who_field w) ≡ true
+  pub back : who_read (who_field w) ≡ w
 
-pub who-written : (w : Who) → hasWho w ≡ true → WhoWritten w
-unfolding isWho whoRead
-who-written (byNumber c) e =
+pub who_written : (w : Who) → has_who w ≡ true → WhoWritten w
+unfolding is_who who_read
+who_written (by_number c) e =
     let h : c < 10000000000 = ltb-true c 10000000000 e in
-    record { form = number-written c h; back = ap byNumber (value-back c h) }
-who-written (byName name) e = record { form = e; back = refl }
+    record { form = number_written c h; back = ap by_number (value-back c h) }
+who_written (by_name name) e = record { form = e; back = refl }
 
 pub record WhoRead (f : List ℕ) : Type 0 where
-  pub form : hasWho (whoRead f) ≡ true
-  pub back : whoField (whoRead f) ≡ f
+  pub form : has_who (who_read f) ≡ true
+  pub back : who_field (who_read f) ≡ f
 
-pub who-read : (f : List ℕ) → isWho f ≡ true → WhoRead f
-unfolding isWho whoRead
+pub who-read : (f : List ℕ) → is_who f ≡ true → WhoRead f
+unfolding is_who who_read
 who-read [] e = no e
 who-read (x ∷ f) e = go (eqb x 35) refl e
   where
-    go : (t : Bool) → eqb x 35 ≡ t → cond t (is_number f) (eqb x 61 && isName f) ≡ true → WhoRead (x ∷ f)
+    go : (t : Bool) → eqb x 35 ≡ t → cond t (is_number f) (eqb x 61 && is_name f) ≡ true → WhoRead (x ∷ f)
     go true p h =
         let n = number_read f h in
         record {
@@ -75,49 +75,49 @@ who-read (x ∷ f) e = go (eqb x 35) refl e
         }
     go false p h =
         record {
-          form = rw p (and_right (eqb x 61) (isName f) h);
-          back = rw p (ap (λ (y : ℕ). y ∷ f) (sym (eqb-true x 61 (and_left (eqb x 61) (isName f) h))));
+          form = rw p (and_right (eqb x 61) (is_name f) h);
+          back = rw p (ap (λ (y : ℕ). y ∷ f) (sym (eqb-true x 61 (and_left (eqb x 61) (is_name f) h))));
         }
 
 -- ── the lines of an order ──
-small : (n : ℕ) → hasDigits n ≡ true → n < 10000000000
+small : (n : ℕ) → has_digits n ≡ true → n < 10000000000
 small n e = ltb-true n 10000000000 e
 
-digit-count : (f : List ℕ) → is_number f ≡ true → hasDigits (value_of f) ≡ true
-digit-count f e = lt-ltb (value_of f) 10000000000 (number_read f e).fits
+digit_count : (f : List ℕ) → is_number f ≡ true → has_digits (value_of f) ≡ true
+digit_count f e = lt-ltb (value_of f) 10000000000 (number_read f e).fits
 
 record Small (l : Line) : Type 0 where
   item : l.item < 10000000000
   supply : l.supply < 10000000000
   quantity : l.quantity < 10000000000
 
-line_small : (l : Line) → lineSmall l ≡ true → Small l
-line_small l e =
-    let h = every-each (hasDigits l.item ∷ hasDigits l.supply ∷ hasDigits l.quantity ∷ []) e in
+line_small_lem : (l : Line) → line_small l ≡ true → Small l
+line_small_lem l e =
+    let h = every-each (has_digits l.item ∷ has_digits l.supply ∷ has_digits l.quantity ∷ []) e in
     record { item = small l.item h.0; supply = small l.supply h.1.0; quantity = small l.quantity h.1.1.0 }
 
-length_fields : (lines : List Line) → length (lineFields lines) ≡ 3 * length lines
+length_fields : (lines : List Line) → length (line_fields lines) ≡ 3 * length lines
 length_fields [] = refl
 length_fields (l ∷ lines) = omega (arith, length_fields lines)
 
-fields-numbers : (lines : List Line) → all_of lineSmall lines ≡ true → all_of is_number (lineFields lines) ≡ true
+fields-numbers : (lines : List Line) → all_of line_small lines ≡ true → all_of is_number (line_fields lines) ≡ true
 fields-numbers [] e = refl
 fields-numbers (l ∷ lines) e =
-    let s = line_small l (and_left (lineSmall l) (all_of lineSmall lines) e) in
-    let r = fields-numbers lines (and_right (lineSmall l) (all_of lineSmall lines) e) in
-    rw (number-written l.item s.item, number-written l.supply s.supply, number-written l.quantity s.quantity) r
+    let s = line_small_lem l (and_left (line_small l) (all_of line_small lines) e) in
+    let r = fields-numbers lines (and_right (line_small l) (all_of line_small lines) e) in
+    rw (number_written l.item s.item, number_written l.supply s.supply, number_written l.quantity s.quantity) r
 
-lines-written : (lines : List Line) → all_of lineSmall lines ≡ true → lines_read (lineFields lines) ≡ lines
+lines_written : (lines : List Line) → all_of line_small lines ≡ true → lines_read (line_fields lines) ≡ lines
 unfolding lines_read
-lines-written [] e = refl
-lines-written (l ∷ lines) e =
-    let s = line_small l (and_left (lineSmall l) (all_of lineSmall lines) e) in
-    rw (value-back l.item s.item, value-back l.supply s.supply, value-back l.quantity s.quantity, lines-written lines (and_right (lineSmall l) (all_of lineSmall lines) e))
+lines_written [] e = refl
+lines_written (l ∷ lines) e =
+    let s = line_small_lem l (and_left (line_small l) (all_of line_small lines) e) in
+    rw (value-back l.item s.item, value-back l.supply s.supply, value-back l.quantity s.quantity, lines_written lines (and_right (line_small l) (all_of line_small lines) e))
 
 record LinesRead (n : ℕ) (fs : List (List ℕ)) : Type 0 where
-  back : lineFields (lines_read fs) ≡ fs
+  back : line_fields (lines_read fs) ≡ fs
   count : length (lines_read fs) ≡ n
-  each : all_of lineSmall (lines_read fs) ≡ true
+  each : all_of line_small (lines_read fs) ≡ true
 
 lines-read : (n : ℕ) (fs : List (List ℕ)) → length fs ≡ 3 * n → all_of is_number fs ≡ true → LinesRead n fs
 unfolding lines_read
@@ -136,23 +136,23 @@ lines-read (suc n) (i ∷ w ∷ q ∷ fs) h e =
     record {
       back = rw ((number_read i a).same, (number_read w b).same, (number_read q c).same, r.back);
       count = ap suc r.count;
-      each = rw (digit-count i a, digit-count w b, digit-count q c) r.each;
+      each = rw (digit_count i a, digit_count w b, digit_count q c) r.each;
     }
 
 -- ── the fields of each form ──
 -- what is read from the fields of a request's line is the request
 pub record FieldsWritten (r : Request) : Type 0 where
   pub plain : all_of (without 9) (fields_of r) ≡ true
-  pub back : readFields (letter r) (fields_of r) ≡ read r
+  pub back : read_fields (letter r) (fields_of r) ≡ read r
 
 numbers-plain : (fs : List (List ℕ)) → all_of is_number fs ≡ true → all_of (without 9) fs ≡ true
 numbers-plain fs e = all_map is_number (without 9) (number-plain 9 (omega arith)) fs e
 
-pub fields-written : (r : Request) → hasForm r ≡ true → FieldsWritten r
-unfolding hasForm fields_of readFields readNewOrder readPayment readDelivery readOrderStatus readStockLevel
-fields-written (newOrder q lines) e =
+pub fields_written : (r : Request) → has_form r ≡ true → FieldsWritten r
+unfolding has_form fields_of read_fields read_new_order read_payment read_delivery read_order_status read_stock_level
+fields_written (new_order q lines) e =
     let h =
-    every-each (hasDigits q.warehouse ∷ hasDigits q.district ∷ hasDigits q.customer ∷ hasDigits q.date ∷ leb 1 (length lines) ∷ leb (length lines) 15 ∷ all_of lineSmall lines ∷ []) e in
+    every-each (has_digits q.warehouse ∷ has_digits q.district ∷ has_digits q.customer ∷ has_digits q.date ∷ leb 1 (length lines) ∷ leb (length lines) 15 ∷ all_of line_small lines ∷ []) e in
     let w = small q.warehouse h.0 in
     let k = small q.district h.1.0 in
     let c = small q.customer h.1.1.0 in
@@ -160,48 +160,48 @@ fields-written (newOrder q lines) e =
     let ls = h.1.1.1.1.1.1.0 in
     let nums = fields-numbers lines ls in
     let len = length_fields lines in
-    let n : (4 + length (lineFields lines) - 4) / 3 ≡ length lines = omega arith in
-    let four : suc (suc (suc (suc (length (lineFields lines))))) ≡ 4 + length (lineFields lines) = omega arith in
-    let all : (is_number (decimal q.warehouse) && (is_number (decimal q.district) && (is_number (decimal q.customer) && (is_number (decimal q.date) && all_of is_number (lineFields lines))))) ≡ true =
-    rw (number-written q.warehouse w, number-written q.district k, number-written q.customer c, number-written q.date t) nums in
-    let whole : 4 + length (lineFields lines) ≡ 4 + 3 * length lines = omega arith in
+    let n : (4 + length (line_fields lines) - 4) / 3 ≡ length lines = omega arith in
+    let four : suc (suc (suc (suc (length (line_fields lines))))) ≡ 4 + length (line_fields lines) = omega arith in
+    let all : (is_number (decimal q.warehouse) && (is_number (decimal q.district) && (is_number (decimal q.customer) && (is_number (decimal q.date) && all_of is_number (line_fields lines))))) ≡ true =
+    rw (number_written q.warehouse w, number_written q.district k, number_written q.customer c, number_written q.date t) nums in
+    let whole : 4 + length (line_fields lines) ≡ 4 + 3 * length lines = omega arith in
     record {
-      plain = numbers-plain (decimal q.warehouse ∷ decimal q.district ∷ decimal q.customer ∷ decimal q.date ∷ lineFields lines) all;
+      plain = numbers-plain (decimal q.warehouse ∷ decimal q.district ∷ decimal q.customer ∷ decimal q.date ∷ line_fields lines) all;
       back = rw (
         all,
         four,
         n,
-        eq-eqb (4 + length (lineFields lines)) (4 + 3 * length lines) whole,
+        eq-eqb (4 + length (line_fields lines)) (4 + 3 * length lines) whole,
         h.1.1.1.1.0,
         h.1.1.1.1.1.0,
         value-back q.warehouse w,
         value-back q.district k,
         value-back q.customer c,
         value-back q.date t,
-        lines-written lines ls,
+        lines_written lines ls,
       );
     }
-fields-written (payment q who) e =
+fields_written (payment q who) e =
     let h =
-    every-each (hasDigits q.warehouse ∷ hasDigits q.district ∷ hasDigits q.custwarehouse ∷ hasDigits q.custdistrict ∷ hasWho who ∷ hasDigits q.date ∷ hasDigits q.amount ∷ []) e in
+    every-each (has_digits q.warehouse ∷ has_digits q.district ∷ has_digits q.custwarehouse ∷ has_digits q.custdistrict ∷ has_who who ∷ has_digits q.date ∷ has_digits q.amount ∷ []) e in
     let w = small q.warehouse h.0 in
     let k = small q.district h.1.0 in
     let cw = small q.custwarehouse h.1.1.0 in
     let ck = small q.custdistrict h.1.1.1.0 in
-    let o = who-written who h.1.1.1.1.0 in
+    let o = who_written who h.1.1.1.1.0 in
     let t = small q.date h.1.1.1.1.1.0 in
     let a = small q.amount h.1.1.1.1.1.1.0 in
-    let plain : (n : ℕ) → n < 10000000000 → without 9 (decimal n) ≡ true = λ n l. number-plain 9 (omega arith) (decimal n) (number-written n l) in
+    let plain : (n : ℕ) → n < 10000000000 → without 9 (decimal n) ≡ true = λ n l. number-plain 9 (omega arith) (decimal n) (number_written n l) in
     record {
-      plain = rw (plain q.warehouse w, plain q.district k, plain q.custwarehouse cw, plain q.custdistrict ck, who-plain (whoField who) o.form, plain q.date t, plain q.amount a);
+      plain = rw (plain q.warehouse w, plain q.district k, plain q.custwarehouse cw, plain q.custdistrict ck, who-plain (who_field who) o.form, plain q.date t, plain q.amount a);
       back = rw (
-        number-written q.warehouse w,
-        number-written q.district k,
-        number-written q.custwarehouse cw,
-        number-written q.custdistrict ck,
+        number_written q.warehouse w,
+        number_written q.district k,
+        number_written q.custwarehouse cw,
+        number_written q.custdistrict ck,
         o.form,
-        number-written q.date t,
-        number-written q.amount a,
+        number_written q.date t,
+        number_written q.amount a,
         value-back q.warehouse w,
         value-back q.district k,
         value-back q.custwarehouse cw,
@@ -211,33 +211,33 @@ fields-written (payment q who) e =
         value-back q.amount a,
       );
     }
-fields-written (delivery q) e =
-    let h = every-each (hasDigits q.warehouse ∷ hasDigits q.carrier ∷ hasDigits q.date ∷ []) e in
+fields_written (delivery q) e =
+    let h = every-each (has_digits q.warehouse ∷ has_digits q.carrier ∷ has_digits q.date ∷ []) e in
     let w = small q.warehouse h.0 in
     let c = small q.carrier h.1.0 in
     let t = small q.date h.1.1.0 in
     let all : (is_number (decimal q.warehouse) && (is_number (decimal q.carrier) && (is_number (decimal q.date) && true))) ≡ true =
-    rw (number-written q.warehouse w, number-written q.carrier c, number-written q.date t) in
+    rw (number_written q.warehouse w, number_written q.carrier c, number_written q.date t) in
     record {
       plain = numbers-plain (decimal q.warehouse ∷ decimal q.carrier ∷ decimal q.date ∷ []) all;
       back = rw (all, value-back q.warehouse w, value-back q.carrier c, value-back q.date t);
     }
-fields-written (orderStatus q who) e =
-    let h = every-each (hasDigits q.warehouse ∷ hasDigits q.district ∷ hasWho who ∷ []) e in
+fields_written (order_status q who) e =
+    let h = every-each (has_digits q.warehouse ∷ has_digits q.district ∷ has_who who ∷ []) e in
     let w = small q.warehouse h.0 in
     let k = small q.district h.1.0 in
-    let o = who-written who h.1.1.0 in
+    let o = who_written who h.1.1.0 in
     record {
-      plain = rw (number-plain 9 (omega arith) (decimal q.warehouse) (number-written q.warehouse w), number-plain 9 (omega arith) (decimal q.district) (number-written q.district k), who-plain (whoField who) o.form);
-      back = rw (number-written q.warehouse w, number-written q.district k, o.form, value-back q.warehouse w, value-back q.district k, o.back);
+      plain = rw (number-plain 9 (omega arith) (decimal q.warehouse) (number_written q.warehouse w), number-plain 9 (omega arith) (decimal q.district) (number_written q.district k), who-plain (who_field who) o.form);
+      back = rw (number_written q.warehouse w, number_written q.district k, o.form, value-back q.warehouse w, value-back q.district k, o.back);
     }
-fields-written (stockLevel q) e =
-    let h = every-each (hasDigits q.warehouse ∷ hasDigits q.district ∷ hasDigits q.threshold ∷ []) e in
+fields_written (stock_level q) e =
+    let h = every-each (has_digits q.warehouse ∷ has_digits q.district ∷ has_digits q.threshold ∷ []) e in
     let w = small q.warehouse h.0 in
     let k = small q.district h.1.0 in
     let t = small q.threshold h.1.1.0 in
     let all : (is_number (decimal q.warehouse) && (is_number (decimal q.district) && (is_number (decimal q.threshold) && true))) ≡ true =
-    rw (number-written q.warehouse w, number-written q.district k, number-written q.threshold t) in
+    rw (number_written q.warehouse w, number_written q.district k, number_written q.threshold t) in
     record {
       plain = numbers-plain (decimal q.warehouse ∷ decimal q.district ∷ decimal q.threshold ∷ []) all;
       back = rw (all, value-back q.warehouse w, value-back q.district k, value-back q.threshold t);
@@ -245,16 +245,16 @@ fields-written (stockLevel q) e =
 
 -- a request that fields are read as has a form, and these are its letter and its fields
 pub record FieldsRead (x : ℕ) (fs : List (List ℕ)) (r : Request) : Type 0 where
-  pub form : hasForm r ≡ true
+  pub form : has_form r ≡ true
   pub begins : letter r ≡ x
   pub back : fields_of r ≡ fs
 
-read-inj : (r s : Request) → read r ≡ read s → r ≡ s
-read-inj r s e = cc
+read_inj : (r s : Request) → read r ≡ read s → r ≡ s
+read_inj r s e = cc
 
 -- a form's own reading: its test, and what it makes
-made : (x : ℕ) (fs : List (List ℕ)) (t : Bool) (r₀ r : Request) → readIf t r₀ ≡ read r → (t ≡ true → FieldsRead x fs r₀) → FieldsRead x fs r
-made x fs true r₀ r e h = subst (λ (r : Request). FieldsRead x fs r) (read-inj r₀ r e) (h refl)
+made : (x : ℕ) (fs : List (List ℕ)) (t : Bool) (r₀ r : Request) → read_if t r₀ ≡ read r → (t ≡ true → FieldsRead x fs r₀) → FieldsRead x fs r
+made x fs true r₀ r e h = subst (λ (r : Request). FieldsRead x fs r) (read_inj r₀ r e) (h refl)
 made x fs false r₀ r e h = clash e
 
 -- the next field
@@ -281,7 +281,7 @@ record Three (fs : List (List ℕ)) : Type 0 where
   b : is_number (field fs 1) ≡ true
   c : is_number (field fs 2) ≡ true
   back : decimal (number_in fs 0) ∷ decimal (number_in fs 1) ∷ decimal (number_in fs 2) ∷ [] ≡ fs
-  form : every (hasDigits (number_in fs 0) ∷ hasDigits (number_in fs 1) ∷ hasDigits (number_in fs 2) ∷ []) ≡ true
+  form : every (has_digits (number_in fs 0) ∷ has_digits (number_in fs 1) ∷ has_digits (number_in fs 2) ∷ []) ≡ true
 
 three-numbers : (fs : List (List ℕ)) → every (eqb (length fs) 3 ∷ all_of is_number fs ∷ []) ≡ true → Three fs
 three-numbers fs e =
@@ -297,40 +297,40 @@ three-numbers fs e =
       b = b;
       c = c;
       back = rw ((number_read (field fs 0) a).same, (number_read (field fs 1) b).same, (number_read (field fs 2) c).same) (sym t);
-      form = rw (digit-count (field fs 0) a, digit-count (field fs 1) b, digit-count (field fs 2) c);
+      form = rw (digit_count (field fs 0) a, digit_count (field fs 1) b, digit_count (field fs 2) c);
     }
 
-delivery-read : (fs : List (List ℕ)) (r : Request) → readDelivery fs ≡ read r → FieldsRead 68 fs r
-unfolding readDelivery hasForm fields_of
+delivery-read : (fs : List (List ℕ)) (r : Request) → read_delivery fs ≡ read r → FieldsRead 68 fs r
+unfolding read_delivery has_form fields_of
 delivery-read fs r e = made 68 fs _ _ r e (λ t. let h = three-numbers fs t in record { form = h.form; begins = refl; back = h.back })
 
-stock-read : (fs : List (List ℕ)) (r : Request) → readStockLevel fs ≡ read r → FieldsRead 76 fs r
-unfolding readStockLevel hasForm fields_of
+stock-read : (fs : List (List ℕ)) (r : Request) → read_stock_level fs ≡ read r → FieldsRead 76 fs r
+unfolding read_stock_level has_form fields_of
 stock-read fs r e = made 76 fs _ _ r e (λ t. let h = three-numbers fs t in record { form = h.form; begins = refl; back = h.back })
 
-status-read : (fs : List (List ℕ)) (r : Request) → readOrderStatus fs ≡ read r → FieldsRead 83 fs r
-unfolding readOrderStatus hasForm fields_of
-status-read fs r e = made 83 fs _ _ r e at
+status_read : (fs : List (List ℕ)) (r : Request) → read_order_status fs ≡ read r → FieldsRead 83 fs r
+unfolding read_order_status has_form fields_of
+status_read fs r e = made 83 fs _ _ r e at
   where
-    at : every (eqb (length fs) 3 ∷ is_number (field fs 0) ∷ is_number (field fs 1) ∷ isWho (field fs 2) ∷ []) ≡ true
-        → FieldsRead 83 fs (orderStatus (record { warehouse = number_in fs 0; district = number_in fs 1 }) (whoRead (field fs 2)))
+    at : every (eqb (length fs) 3 ∷ is_number (field fs 0) ∷ is_number (field fs 1) ∷ is_who (field fs 2) ∷ []) ≡ true
+        → FieldsRead 83 fs (order_status (record { warehouse = number_in fs 0; district = number_in fs 1 }) (who_read (field fs 2)))
     at t =
-        let h = every-each (eqb (length fs) 3 ∷ is_number (field fs 0) ∷ is_number (field fs 1) ∷ isWho (field fs 2) ∷ []) t in
+        let h = every-each (eqb (length fs) 3 ∷ is_number (field fs 0) ∷ is_number (field fs 1) ∷ is_who (field fs 2) ∷ []) t in
         let w = who-read (field fs 2) h.1.1.1.0 in
         record {
-          form = rw (digit-count (field fs 0) h.1.0, digit-count (field fs 1) h.1.1.0) w.form;
+          form = rw (digit_count (field fs 0) h.1.0, digit_count (field fs 1) h.1.1.0) w.form;
           begins = refl;
           back = rw ((number_read (field fs 0) h.1.0).same, (number_read (field fs 1) h.1.1.0).same, w.back) (sym (three fs (eqb-true (length fs) 3 h.0)));
         }
 
-payment-read : (fs : List (List ℕ)) (r : Request) → readPayment fs ≡ read r → FieldsRead 80 fs r
-unfolding readPayment hasForm fields_of
+payment-read : (fs : List (List ℕ)) (r : Request) → read_payment fs ≡ read r → FieldsRead 80 fs r
+unfolding read_payment has_form fields_of
 payment-read fs r e = made 80 fs _ _ r e at
   where
-    at : every (eqb (length fs) 7 ∷ is_number (field fs 0) ∷ is_number (field fs 1) ∷ is_number (field fs 2) ∷ is_number (field fs 3) ∷ isWho (field fs 4) ∷ is_number (field fs 5) ∷ is_number (field fs 6) ∷ []) ≡ true
-        → FieldsRead 80 fs (payment (record { warehouse = number_in fs 0; district = number_in fs 1; custwarehouse = number_in fs 2; custdistrict = number_in fs 3; date = number_in fs 5; amount = number_in fs 6 }) (whoRead (field fs 4)))
+    at : every (eqb (length fs) 7 ∷ is_number (field fs 0) ∷ is_number (field fs 1) ∷ is_number (field fs 2) ∷ is_number (field fs 3) ∷ is_who (field fs 4) ∷ is_number (field fs 5) ∷ is_number (field fs 6) ∷ []) ≡ true
+        → FieldsRead 80 fs (payment (record { warehouse = number_in fs 0; district = number_in fs 1; custwarehouse = number_in fs 2; custdistrict = number_in fs 3; date = number_in fs 5; amount = number_in fs 6 }) (who_read (field fs 4)))
     at t =
-        let h = every-each (eqb (length fs) 7 ∷ is_number (field fs 0) ∷ is_number (field fs 1) ∷ is_number (field fs 2) ∷ is_number (field fs 3) ∷ isWho (field fs 4) ∷ is_number (field fs 5) ∷ is_number (field fs 6) ∷ []) t in
+        let h = every-each (eqb (length fs) 7 ∷ is_number (field fs 0) ∷ is_number (field fs 1) ∷ is_number (field fs 2) ∷ is_number (field fs 3) ∷ is_who (field fs 4) ∷ is_number (field fs 5) ∷ is_number (field fs 6) ∷ []) t in
         let n0 = h.1.0 in
         let n1 = h.1.1.0 in
         let n2 = h.1.1.1.0 in
@@ -339,18 +339,18 @@ payment-read fs r e = made 80 fs _ _ r e at
         let n5 = h.1.1.1.1.1.1.0 in
         let n6 = h.1.1.1.1.1.1.1.0 in
         record {
-          form = rw (digit-count (field fs 0) n0, digit-count (field fs 1) n1, digit-count (field fs 2) n2, digit-count (field fs 3) n3, w.form, digit-count (field fs 5) n5, digit-count (field fs 6) n6);
+          form = rw (digit_count (field fs 0) n0, digit_count (field fs 1) n1, digit_count (field fs 2) n2, digit_count (field fs 3) n3, w.form, digit_count (field fs 5) n5, digit_count (field fs 6) n6);
           begins = refl;
           back = rw ((number_read (field fs 0) n0).same, (number_read (field fs 1) n1).same, (number_read (field fs 2) n2).same, (number_read (field fs 3) n3).same, w.back, (number_read (field fs 5) n5).same, (number_read (field fs 6) n6).same)
               (sym (seven fs (eqb-true (length fs) 7 h.0)));
         }
 
-new-read : (fs : List (List ℕ)) (r : Request) → readNewOrder fs ≡ read r → FieldsRead 78 fs r
-unfolding readNewOrder hasForm fields_of
-new-read fs r e = made 78 fs _ _ r e at
+new_read : (fs : List (List ℕ)) (r : Request) → read_new_order fs ≡ read r → FieldsRead 78 fs r
+unfolding read_new_order has_form fields_of
+new_read fs r e = made 78 fs _ _ r e at
   where
     at : every (all_of is_number fs ∷ eqb (length fs) (4 + 3 * ((length fs - 4) / 3)) ∷ leb 1 ((length fs - 4) / 3) ∷ leb ((length fs - 4) / 3) 15 ∷ []) ≡ true
-        → FieldsRead 78 fs (newOrder (record { warehouse = number_in fs 0; district = number_in fs 1; customer = number_in fs 2; date = number_in fs 3 }) (lines_read (drop 4 fs)))
+        → FieldsRead 78 fs (new_order (record { warehouse = number_in fs 0; district = number_in fs 1; customer = number_in fs 2; date = number_in fs 3 }) (lines_read (drop 4 fs)))
     at t =
         let m = (length fs - 4) / 3 in
         let h = every-each (all_of is_number fs ∷ eqb (length fs) (4 + 3 * m) ∷ leb 1 m ∷ leb m 15 ∷ []) t in
@@ -368,49 +368,49 @@ new-read fs r e = made 78 fs _ _ r e at
         let short : length rest ≡ 3 * m = omega (arith, ap length f, long) in
         let ls = lines-read m rest short (and_right (is_number (field fs 3)) (all_of is_number rest) e3) in
         record {
-          form = rw (digit-count (field fs 0) n0, digit-count (field fs 1) n1, digit-count (field fs 2) n2, digit-count (field fs 3) n3, ls.count, h.1.1.0, h.1.1.1.0) ls.each;
+          form = rw (digit_count (field fs 0) n0, digit_count (field fs 1) n1, digit_count (field fs 2) n2, digit_count (field fs 3) n3, ls.count, h.1.1.0, h.1.1.1.0) ls.each;
           begins = refl;
           back = rw ((number_read (field fs 0) n0).same, (number_read (field fs 1) n1).same, (number_read (field fs 2) n2).same, (number_read (field fs 3) n3).same, ls.back) (sym f);
         }
 
-pub fields_read : (x : ℕ) (fs : List (List ℕ)) (r : Request) → readFields x fs ≡ read r → FieldsRead x fs r
-unfolding readFields
+pub fields_read : (x : ℕ) (fs : List (List ℕ)) (r : Request) → read_fields x fs ≡ read r → FieldsRead x fs r
+unfolding read_fields
 fields_read x fs r e = n78 (eqb x 78) refl e
   where
     at : (k : ℕ) → eqb x k ≡ true → FieldsRead k fs r → FieldsRead x fs r
     at k t h = subst (λ (y : ℕ). FieldsRead y fs r) (sym (eqb-true x k t)) h
 
-    n76 : (t : Bool) → eqb x 76 ≡ t → cond t (readStockLevel fs) noForm ≡ read r → FieldsRead x fs r
+    n76 : (t : Bool) → eqb x 76 ≡ t → cond t (read_stock_level fs) no_form ≡ read r → FieldsRead x fs r
     n76 true q h = at 76 q (stock-read fs r h)
     n76 false q h = clash h
 
-    n83 : (t : Bool) → eqb x 83 ≡ t → cond t (readOrderStatus fs) (cond (eqb x 76) (readStockLevel fs) noForm) ≡ read r → FieldsRead x fs r
-    n83 true q h = at 83 q (status-read fs r h)
+    n83 : (t : Bool) → eqb x 83 ≡ t → cond t (read_order_status fs) (cond (eqb x 76) (read_stock_level fs) no_form) ≡ read r → FieldsRead x fs r
+    n83 true q h = at 83 q (status_read fs r h)
     n83 false q h = n76 (eqb x 76) refl h
 
-    n68 : (t : Bool) → eqb x 68 ≡ t → cond t (readDelivery fs) (cond (eqb x 83) (readOrderStatus fs) (cond (eqb x 76) (readStockLevel fs) noForm)) ≡ read r → FieldsRead x fs r
+    n68 : (t : Bool) → eqb x 68 ≡ t → cond t (read_delivery fs) (cond (eqb x 83) (read_order_status fs) (cond (eqb x 76) (read_stock_level fs) no_form)) ≡ read r → FieldsRead x fs r
     n68 true q h = at 68 q (delivery-read fs r h)
     n68 false q h = n83 (eqb x 83) refl h
 
-    n80 : (t : Bool) → eqb x 80 ≡ t → cond t (readPayment fs) (cond (eqb x 68) (readDelivery fs) (cond (eqb x 83) (readOrderStatus fs) (cond (eqb x 76) (readStockLevel fs) noForm))) ≡ read r → FieldsRead x fs r
+    n80 : (t : Bool) → eqb x 80 ≡ t → cond t (read_payment fs) (cond (eqb x 68) (read_delivery fs) (cond (eqb x 83) (read_order_status fs) (cond (eqb x 76) (read_stock_level fs) no_form))) ≡ read r → FieldsRead x fs r
     n80 true q h = at 80 q (payment-read fs r h)
     n80 false q h = n68 (eqb x 68) refl h
 
-    n78 : (t : Bool) → eqb x 78 ≡ t → cond t (readNewOrder fs) (cond (eqb x 80) (readPayment fs) (cond (eqb x 68) (readDelivery fs) (cond (eqb x 83) (readOrderStatus fs) (cond (eqb x 76) (readStockLevel fs) noForm)))) ≡ read r → FieldsRead x fs r
-    n78 true q h = at 78 q (new-read fs r h)
+    n78 : (t : Bool) → eqb x 78 ≡ t → cond t (read_new_order fs) (cond (eqb x 80) (read_payment fs) (cond (eqb x 68) (read_delivery fs) (cond (eqb x 83) (read_order_status fs) (cond (eqb x 76) (read_stock_level fs) no_form)))) ≡ read r → FieldsRead x fs r
+    n78 true q h = at 78 q (new_read fs r h)
     n78 false q h = n80 (eqb x 80) refl h
 
 -- ── both inverse laws ──
 letter-plain : (r : Request) → without 9 (letter r ∷ []) ≡ true
-letter-plain (newOrder q lines) = refl
+letter-plain (new_order q lines) = refl
 letter-plain (payment q who) = refl
 letter-plain (delivery q) = refl
-letter-plain (orderStatus q who) = refl
-letter-plain (stockLevel q) = refl
+letter-plain (order_status q who) = refl
+letter-plain (stock_level q) = refl
 
 -- a line is read by its fields: the byte 10 at its end, tabs between
-line-parts : (body : List ℕ) → readLine (body ++ (10 ∷ [])) ≡ readParted (parted body)
-unfolding readLine
+line-parts : (body : List ℕ) → read_line (body ++ (10 ∷ [])) ≡ read_parted (parted body)
+unfolding read_line
 line-parts body =
     let long : length (body ++ (10 ∷ [])) ≡ length body + 1 = length-append body (10 ∷ []) in
     let one : 1 ≤ length (body ++ (10 ∷ [])) = omega arith in
@@ -420,17 +420,17 @@ line-parts body =
     rw (le-leb 1 (length (body ++ (10 ∷ []))) one, ten, cut)
 
 -- reading what writing gives is the request
-pub read-written : (r : Request) → hasForm r ≡ true → readLine (line_of r) ≡ read r
-unfolding line_of lineText
-read-written r e =
-    let w = fields-written r e in
-    line-parts (joined ((letter r ∷ []) ∷ fields_of r)) ∙ ap readParted (parted-joined (letter r ∷ []) (fields_of r) (letter-plain r) w.plain) ∙ w.back
+pub read_written : (r : Request) → has_form r ≡ true → read_line (line_of r) ≡ read r
+unfolding line_of line_text
+read_written r e =
+    let w = fields_written r e in
+    line-parts (joined ((letter r ∷ []) ∷ fields_of r)) ∙ ap read_parted (parted-joined (letter r ∷ []) (fields_of r) (letter-plain r) w.plain) ∙ w.back
 
 record PartsRead (p : List (List ℕ)) (r : Request) : Type 0 where
-  form : hasForm r ≡ true
+  form : has_form r ≡ true
   back : joined ((letter r ∷ []) ∷ fields_of r) ≡ joined p
 
-parts-read : (p : List (List ℕ)) (r : Request) → readParted p ≡ read r → PartsRead p r
+parts-read : (p : List (List ℕ)) (r : Request) → read_parted p ≡ read r → PartsRead p r
 parts-read [] r e = clash e
 parts-read ([] ∷ fs) r e = clash e
 parts-read ((x ∷ []) ∷ fs) r e =
@@ -438,7 +438,7 @@ parts-read ((x ∷ []) ∷ fs) r e =
     record { form = h.form; back = rw (h.begins, h.back) }
 parts-read ((x ∷ y ∷ f) ∷ fs) r e = go (eqb (suc (suc (length f))) 1) refl e
   where
-    go : (t : Bool) → eqb (suc (suc (length f))) 1 ≡ t → cond t (readFields x fs) noForm ≡ read r → PartsRead ((x ∷ y ∷ f) ∷ fs) r
+    go : (t : Bool) → eqb (suc (suc (length f))) 1 ≡ t → cond t (read_fields x fs) no_form ≡ read r → PartsRead ((x ∷ y ∷ f) ∷ fs) r
     go true q h = absurd (omega (arith, eqb-true (suc (suc (length f))) 1 q))
     go false q h = clash h
 
@@ -446,13 +446,13 @@ parts-read ((x ∷ y ∷ f) ∷ fs) r e = go (eqb (suc (suc (length f))) 1) refl
 record Ends (s : List ℕ) (r : Request) : Type 0 where
   body : List ℕ
   whole : s ≡ body ++ (10 ∷ [])
-  parts : readParted (parted body) ≡ read r
+  parts : read_parted (parted body) ≡ read r
 
-ends : (s : List ℕ) (r : Request) → readLine s ≡ read r → Ends s r
-unfolding readLine
+ends : (s : List ℕ) (r : Request) → read_line s ≡ read r → Ends s r
+unfolding read_line
 ends s r e = go (leb 1 (length s) && eqb (get_or s (length s - 1) 0) 10) refl e
   where
-    go : (t : Bool) → (leb 1 (length s) && eqb (get_or s (length s - 1) 0) 10) ≡ t → cond t (readParted (parted (take (length s - 1) s))) noForm ≡ read r → Ends s r
+    go : (t : Bool) → (leb 1 (length s) && eqb (get_or s (length s - 1) 0) 10) ≡ t → cond t (read_parted (parted (take (length s - 1) s))) no_form ≡ read r → Ends s r
     go true q h =
         let one : 1 ≤ length s = leb-true 1 (length s) (and_left (leb 1 (length s)) (eqb (get_or s (length s - 1) 0) 10) q) in
         let ten : get_or s (length s - 1) 0 ≡ 10 = eqb-true _ _ (and_right (leb 1 (length s)) (eqb (get_or s (length s - 1) 0) 10) q) in
@@ -464,19 +464,19 @@ ends s r e = go (leb 1 (length s) && eqb (get_or s (length s - 1) 0) 10) refl e
 
 -- a line that is read: its request has a form, and writing it gives the line
 pub record LineRead (s : List ℕ) (r : Request) : Type 0 where
-  pub form : hasForm r ≡ true
+  pub form : has_form r ≡ true
   pub same : line_of r ≡ s
 
-pub written_read : (s : List ℕ) (r : Request) → readLine s ≡ read r → LineRead s r
-unfolding line_of lineText
+pub written_read : (s : List ℕ) (r : Request) → read_line s ≡ read r → LineRead s r
+unfolding line_of line_text
 written_read s r e =
     let h = ends s r e in
     let p = parts-read (parted h.body) r h.parts in
     record { form = p.form; same = ap (λ (l : List ℕ). l ++ (10 ∷ [])) (p.back ∙ joined-parted h.body) ∙ sym h.whole }
 
 -- two requests with the same line are the same; two lines with the same request are the same
-pub line-inj : (r s : Request) → hasForm r ≡ true → hasForm s ≡ true → line_of r ≡ line_of s → r ≡ s
-line-inj r s e h q = read-inj r s (sym (read-written r e) ∙ ap readLine q ∙ read-written s h)
+pub line_inj : (r s : Request) → has_form r ≡ true → has_form s ≡ true → line_of r ≡ line_of s → r ≡ s
+line_inj r s e h q = read_inj r s (sym (read_written r e) ∙ ap read_line q ∙ read_written s h)
 
-pub read_one : (s t : List ℕ) (r : Request) → readLine s ≡ read r → readLine t ≡ read r → s ≡ t
+pub read_one : (s t : List ℕ) (r : Request) → read_line s ≡ read r → read_line t ≡ read r → s ≡ t
 read_one s t r e h = sym (written_read s r e).same ∙ (written_read t r h).same

@@ -35,15 +35,15 @@ module _ {A : Type 0} where
       rw (p, h (suc n) (record { lo = omega arith; hi = omega arith }))
 
   -- taken from the front
-  pub up-cons : (n : ℕ) (f : ℕ → A) → up_to (suc n) f ≡ f 1 ∷ up_to n (λ j. f (suc j))
+  pub up_cons : (n : ℕ) (f : ℕ → A) → up_to (suc n) f ≡ f 1 ∷ up_to n (λ j. f (suc j))
   unfolding up_to
-  up-cons zero f = refl
-  up-cons (suc n) f = ap (λ (l : List A). l ++ (f (suc (suc n)) ∷ [])) (up-cons n f)
+  up_cons zero f = refl
+  up_cons (suc n) f = ap (λ (l : List A). l ++ (f (suc (suc n)) ∷ [])) (up_cons n f)
 
-pub sum-append : (xs ys : List ℕ) → sum_of (xs ++ ys) ≡ sum_of xs + sum_of ys
+pub sum_append : (xs ys : List ℕ) → sum_of (xs ++ ys) ≡ sum_of xs + sum_of ys
 unfolding sum_of
-sum-append [] ys = sym (zero-add (sum_of ys))
-sum-append (x ∷ xs) ys = rw (sum-append xs ys) (sym (add_assoc x (sum_of xs) (sum_of ys)))
+sum_append [] ys = sym (zero-add (sum_of ys))
+sum_append (x ∷ xs) ys = rw (sum_append xs ys) (sym (add_assoc x (sum_of xs) (sum_of ys)))
 
 pub sum_one : (x : ℕ) → sum_of (x ∷ []) ≡ x
 unfolding sum_of
@@ -51,22 +51,22 @@ sum_one x = add-zero x
 
 -- one number more
 pub sum_step : (n : ℕ) (f : ℕ → ℕ) → sum_of (up_to (n + 1) f) ≡ sum_of (up_to n f) + f (n + 1)
-sum_step n f = ap sum_of (up_step n f) ∙ sum-append (up_to n f) (f (n + 1) ∷ []) ∙ ap (λ (m : ℕ). sum_of (up_to n f) + m) (sum_one (f (n + 1)))
+sum_step n f = ap sum_of (up_step n f) ∙ sum_append (up_to n f) (f (n + 1) ∷ []) ∙ ap (λ (m : ℕ). sum_of (up_to n f) + m) (sum_one (f (n + 1)))
 
-pub sum-le : (n top : ℕ) (f : ℕ → ℕ) → ((j : ℕ) → R n j → f j ≤ top) → sum_of (up_to n f) ≤ top * n
+pub sum_le : (n top : ℕ) (f : ℕ → ℕ) → ((j : ℕ) → R n j → f j ≤ top) → sum_of (up_to n f) ≤ top * n
 unfolding up_to sum_of
-sum-le zero top f h = omega arith
-sum-le (suc n) top f h =
-    let p = sum-le n top f (λ j r. h j (record { lo = r.lo; hi = omega (arith, r.hi) })) in
+sum_le zero top f h = omega arith
+sum_le (suc n) top f h =
+    let p = sum_le n top f (λ j r. h j (record { lo = r.lo; hi = omega (arith, r.hi) })) in
     let q = h (suc n) (record { lo = omega arith; hi = omega arith }) in
-    rw (sum-append (up_to n f) (f (suc n) ∷ []), sum_one (f (suc n))) (omega arith)
+    rw (sum_append (up_to n f) (f (suc n) ∷ []), sum_one (f (suc n))) (omega arith)
 
 module _ (f : ℕ → Bool) where
   -- ── the first of n numbers from k on ──
-  pub lowest-here : (k n : ℕ) → f k ≡ true → 0 < n → lowest f k n ≡ k
+  pub lowest_here : (k n : ℕ) → f k ≡ true → 0 < n → lowest f k n ≡ k
   unfolding lowest
-  lowest-here k zero e h = absurd (omega arith)
-  lowest-here k (suc n) e h = rw e
+  lowest_here k zero e h = absurd (omega arith)
+  lowest_here k (suc n) e h = rw e
 
   pub lowest-past : (k n : ℕ) → f k ≡ false → 0 < n → lowest f k n ≡ lowest f (k + 1) (n - 1)
   unfolding lowest
@@ -77,10 +77,10 @@ module _ (f : ℕ → Bool) where
   unfolding lowest
   lowest-none k = refl
 
-  pub largest-here : (n : ℕ) → f n ≡ true → 0 < n → largest f n ≡ n
+  pub largest_here : (n : ℕ) → f n ≡ true → 0 < n → largest f n ≡ n
   unfolding largest
-  largest-here zero e h = absurd (omega arith)
-  largest-here (suc n) e h = rw e
+  largest_here zero e h = absurd (omega arith)
+  largest_here (suc n) e h = rw e
 
 -- what a first number is: it passes, it is one of the n from k on, and none before it passes
 pub record Lowest (f : ℕ → Bool) (k n o : ℕ) : Type 0 where
@@ -107,18 +107,18 @@ lowest-is f k (suc n) o e = go (f k) refl (λ q. lowest-is f (suc k) n o q)
         record { passes = sym (ap f s) ∙ p; from = omega arith; to = omega arith; first = λ j h g. absurd (omega arith) }
     go false p rec = before (rec (ap (λ (t : Bool). cond t k (lowest f (suc k) n)) (sym p) ∙ e)) p
 
-pub lowest-in : (f : ℕ → Bool) (n : ℕ) → lowest f 1 n ≤ n
-lowest-in f n = go (lowest f 1 n) refl
+pub lowest_in : (f : ℕ → Bool) (n : ℕ) → lowest f 1 n ≤ n
+lowest_in f n = go (lowest f 1 n) refl
   where
     go : (o : ℕ) → lowest f 1 n ≡ o → o ≤ n
     go zero e = omega arith
     go (suc o) e = omega (arith, (lowest-is f 1 n o e).to)
 
 -- what a last number is
-pub largest-in : (f : ℕ → Bool) (n : ℕ) → largest f n ≤ n
+pub largest_in : (f : ℕ → Bool) (n : ℕ) → largest f n ≤ n
 unfolding largest
-largest-in f zero = omega arith
-largest-in f (suc n) = go (f (suc n)) (largest-in f n)
+largest_in f zero = omega arith
+largest_in f (suc n) = go (f (suc n)) (largest_in f n)
   where
     go : (t : Bool) → largest f n ≤ n → cond t (suc n) (largest f n) ≤ suc n
     go true h = omega arith
@@ -141,5 +141,5 @@ largest-same f g (suc n) h =
     rw (p, h (suc n) (record { lo = omega arith; hi = omega arith }))
 
 -- what a loop has made at its end
-pub at-end : {A : Type 0} (f : ℕ → A) {x : A} {i n : ℕ} → i ≤ n → n ≤ i → x ≡ f i → x ≡ f n
-at-end f h k e = e ∙ ap f (le_antisymm h k)
+pub at_end : {A : Type 0} (f : ℕ → A) {x : A} {i n : ℕ} → i ≤ n → n ≤ i → x ≡ f i → x ≡ f n
+at_end f h k e = e ∙ ap f (le_antisymm h k)

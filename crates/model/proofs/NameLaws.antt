@@ -13,38 +13,38 @@ use Rattle.model.specs.declared.Dims.{Dims}
 use Rattle.model.specs.declared.Found.{Found}
 use Rattle.model.specs.declared.Found.TheVariants.{Customer, Nobody}
 use Rattle.model.specs.Tests.{every}
-use Rattle.model.specs.Layout.{nameBytes}
-use Rattle.model.specs.Names.{namePlace, padded, namesakes, taken, found, Who, byNumber, byName, customerOf, foundNumber, isFound, whoTests}
+use Rattle.model.specs.Layout.{name_bytes}
+use Rattle.model.specs.Names.{name_place, padded, namesakes, taken, found, Who, by_number, by_name, customer_of, found_number, is_found, who_tests}
 use Rattle.model.specs.Claim.{R}
 use Rattle.model.proofs.TestLaws.{every-each}
 use Rattle.model.proofs.Fields.{Dimensioned}
-use Rattle.model.proofs.Ordering.{namesake-in}
+use Rattle.model.proofs.Ordering.{namesake_in}
 
 -- the names of a district's customers stand one after the other
-pub name-place : (d : Dims) (w k c : ℕ) → namePlace d w k c ≡ namePlace d w k 1 + 32 * (c - 1)
-unfolding namePlace
+pub name-place : (d : Dims) (w k c : ℕ) → name_place d w k c ≡ name_place d w k 1 + 32 * (c - 1)
+unfolding name_place
 name-place d w k c = omega arith
 
-pub name-first : (d : Dims) (w k : ℕ) → 32 * (((w - 1) * 10 + (k - 1)) * d.customers) ≡ namePlace d w k 1
-unfolding namePlace
+pub name-first : (d : Dims) (w k : ℕ) → 32 * (((w - 1) * 10 + (k - 1)) * d.customers) ≡ name_place d w k 1
+unfolding name_place
 name-first d w k = omega arith
 
 -- all of them lie within the name bytes
-pub names-end : (d : Dims) (w k : ℕ) → R d.warehouses w → R 10 k → namePlace d w k 1 + 32 * d.customers ≤ nameBytes d
-unfolding namePlace nameBytes
-names-end d w k r s =
+pub names_end : (d : Dims) (w k : ℕ) → R d.warehouses w → R 10 k → name_place d w k 1 + 32 * d.customers ≤ name_bytes d
+unfolding name_place name_bytes
+names_end d w k r s =
     let x : ℕ = (w - 1) * 10 + (k - 1) in
     let h : suc x * d.customers ≤ 10 * d.warehouses * d.customers = mul-le-mul_right d.customers (omega arith) in
     omega (arith, suc-mul x d.customers)
 
-pub name-within : (d : Dims) (w k c : ℕ) → R d.warehouses w → R 10 k → R d.customers c → namePlace d w k c + 32 ≤ nameBytes d
-name-within d w k c r s t = omega (arith, name-place d w k c, names-end d w k r s)
+pub name-within : (d : Dims) (w k c : ℕ) → R d.warehouses w → R 10 k → R d.customers c → name_place d w k c + 32 ≤ name_bytes d
+name-within d w k c r s t = omega (arith, name-place d w k c, names_end d w k r s)
 
 -- no product on the way is large
-pub names-max : (d : Dims) (w k : ℕ) → Dimensioned d → R d.warehouses w → R 10 k → ((w - 1) * 10 + (k - 1)) * d.customers ≤ 600000
-names-max d w k m r s =
+pub names_max : (d : Dims) (w k : ℕ) → Dimensioned d → R d.warehouses w → R 10 k → ((w - 1) * 10 + (k - 1)) * d.customers ≤ 600000
+names_max d w k m r s =
     let h : (w - 1) * 10 + (k - 1) ≤ 200 = omega arith in
-    mul-le-mul h m.customers-high
+    mul-le-mul h m.customers_high
 
 -- ── whoever is found ──
 clash : {X : Type 0} (c : ℕ) → Nobody ≡ Customer c → X
@@ -61,22 +61,22 @@ unfolding found
 found_in d names w k name c e = split (leb 1 (length name) && leb (length name) 16) e
   where
     split : (t : Bool) → cond t (taken (namesakes d names w k (padded name))) Nobody ≡ Customer c → R d.customers c
-    split true e = taken_in d.customers (namesakes d names w k (padded name)) c (namesake-in d names w k (padded name)) e
+    split true e = taken_in d.customers (namesakes d names w k (padded name)) c (namesake_in d names w k (padded name)) e
     split false e = clash c e
 
 -- whoever a request names, where 6 does not refuse it
-pub customer-in : (d : Dims) (names : List ℕ) (w k : ℕ) (who : Who) (c : ℕ) → every (whoTests d who) ≡ true → customerOf d names w k who ≡ Customer c → R d.customers c
-unfolding customerOf
-customer-in d names w k (byNumber n) c t e =
-    let h = every-each (whoTests d (byNumber n)) t in
+pub customer_in_lem : (d : Dims) (names : List ℕ) (w k : ℕ) (who : Who) (c : ℕ) → every (who_tests d who) ≡ true → customer_of d names w k who ≡ Customer c → R d.customers c
+unfolding customer_of
+customer_in_lem d names w k (by_number n) c t e =
+    let h = every-each (who_tests d (by_number n)) t in
     let q : n ≡ c = cc in
     rw (← q) (record { lo = leb-true 1 n h.0; hi = leb-true n d.customers h.1.0 })
-customer-in d names w k (byName name) c t e = found_in d names w k name c e
+customer_in_lem d names w k (by_name name) c t e = found_in d names w k name c e
 
-pub found_number : (d : Dims) (names : List ℕ) (w k : ℕ) (who : Who) → every (whoTests d who) ≡ true → isFound (customerOf d names w k who) ≡ true
-    → R d.customers (foundNumber (customerOf d names w k who))
-found_number d names w k who t e = split (customerOf d names w k who) refl e
+pub found_number_lem : (d : Dims) (names : List ℕ) (w k : ℕ) (who : Who) → every (who_tests d who) ≡ true → is_found (customer_of d names w k who) ≡ true
+    → R d.customers (found_number (customer_of d names w k who))
+found_number_lem d names w k who t e = split (customer_of d names w k who) refl e
   where
-    split : (f : Found) → customerOf d names w k who ≡ f → isFound f ≡ true → R d.customers (foundNumber f)
-    split (Customer c) p e = customer-in d names w k who c t p
+    split : (f : Found) → customer_of d names w k who ≡ f → is_found f ≡ true → R d.customers (found_number f)
+    split (Customer c) p e = customer_in_lem d names w k who c t p
     split Nobody p e = absurd (let z : ◌≡◌ {A = ℕ} 0 1 = cc in omega arith)

@@ -19,31 +19,31 @@ use Rattle.model.specs.declared.OrderStatus.{OrderStatus}
 use Rattle.model.specs.declared.Payment.{Payment}
 use Rattle.model.specs.declared.StockLevel.{StockLevel}
 use Rattle.model.specs.Tests.{every, all_of, failing, Check, chk, fault, within}
-use Rattle.model.specs.Numbers.{nat, cell, balanceOk}
-use Rattle.model.specs.Layout.{shapes, total, numbers, nameBytes}
+use Rattle.model.specs.Numbers.{nat, cell, balance_ok}
+use Rattle.model.specs.Layout.{shapes, total, numbers, name_bytes}
 use Rattle.model.specs.Store.{num}
-use Rattle.model.specs.Rows.{nextOrder, historyCount}
-use Rattle.model.specs.Head.{dims, dimsTests, sizeTests, headOk}
-use Rattle.model.specs.Names.{Who, byNumber, byName, whoTests}
-use Rattle.model.specs.Used.{customersUsed, namesUsed, ordersUsed, districtUsed, itemUsed, stockUsed, listed, lineUsed, whoUsed}
-use Rattle.model.specs.NewOrder.{suppliable, newAsked, newUsed, newOrderFault}
-use Rattle.model.specs.Payment.{payAsked, payUsed, payFirst, paymentFault}
-use Rattle.model.specs.Delivery.{deliveryAsked, deliverable, deliveryUsed, deliveryFault}
-use Rattle.model.specs.OrderStatus.{statusAsked, statusUsed, statusFault}
-use Rattle.model.specs.StockLevel.{levelAsked, levelUsed, stockLevelFault}
-use Rattle.model.specs.Request.{Request, newOrder, payment, delivery, orderStatus, stockLevel, Lent, lent, faultOf, after}
-use Rattle.model.specs.Tally.{Tally, N, M, charged, doneAll}
+use Rattle.model.specs.Rows.{next_order, history_count}
+use Rattle.model.specs.Head.{dims, dims_tests, size_tests, head_ok}
+use Rattle.model.specs.Names.{Who, by_number, by_name, who_tests}
+use Rattle.model.specs.Used.{customers_used, names_used, orders_used, district_used, item_used, stock_used, listed, line_used, who_used}
+use Rattle.model.specs.NewOrder.{suppliable, new_asked, new_used, new_order_fault}
+use Rattle.model.specs.Payment.{pay_asked, pay_used, pay_first, payment_fault}
+use Rattle.model.specs.Delivery.{delivery_asked, deliverable, delivery_used, delivery_fault}
+use Rattle.model.specs.OrderStatus.{status_asked, status_used, status_fault}
+use Rattle.model.specs.StockLevel.{level_asked, level_used, stock_level_fault}
+use Rattle.model.specs.Request.{Request, new_order, payment, delivery, order_status, stock_level, Lent, lent, fault_of, after}
+use Rattle.model.specs.Tally.{Tally, N, M, charged, done_all}
 use Rattle.model.specs.Claim.{R, Never}
-use Rattle.model.proofs.TestLaws.{every-each, each-every, and_left, and_right, all-to, Passed, PassAt, Need, not-answered, in_within, in-range}
+use Rattle.model.proofs.TestLaws.{every-each, each-every, and_left, and_right, all-to, Passed, PassAt, Need, not_answered, in_within, in_range}
 use Rattle.model.proofs.NumberLaws.{nat-pos}
 use Rattle.model.proofs.Fields.{Dimensioned, head-num}
-use Rattle.model.proofs.RowFacts.{WarehouseIn, DistrictIn, CustomerIn, ItemIn, StockIn, OrderIn, in-warehouse, in-district, in-customer, in_item, in-stock, at-customers, at-orders, all-in-map, none-failing, in-all-of}
+use Rattle.model.proofs.RowFacts.{WarehouseIn, DistrictIn, CustomerIn, ItemIn, StockIn, OrderIn, in_warehouse, in_district, in_customer, in_item, in_stock, at-customers, at-orders, all_in_map, none-failing, in_all_of}
 use Rattle.model.proofs.NewOrderFacts.{line-asked}
 use Rattle.model.proofs.StockLevelFacts.{at-window}
 use Rattle.model.proofs.OrderRows.{nat_low, nat-high}
-use Rattle.model.proofs.Parts.{bal, count-nat, timesOf, isPayer, times-le, handedTo, orders-by-le}
+use Rattle.model.proofs.Parts.{bal, count-nat, times_of, is_payer, times_le, handed_to, orders_by_le}
 use Rattle.model.proofs.StepDeliver.{next-num}
-use Rattle.model.proofs.Sane.{placed-le, sums-le}
+use Rattle.model.proofs.Sane.{placed_le, sums_le}
 use Rattle.model.proofs.Fresh.{Fresh}
 use Rattle.model.proofs.Calls.{Good, counted, call_step}
 
@@ -61,7 +61,7 @@ avoided n (c ∷ cs) e =
 
 -- such a number is not answered
 pub unanswered : (n : ℕ) (cs : List Check) → 1 ≤ n → avoids n cs ≡ true → (fault cs).number ≢ n
-unanswered n cs h e = not-answered n cs h (avoided n cs e)
+unanswered n cs h e = not_answered n cs h (avoided n cs e)
 
 -- a number whose tests all stand behind xs
 pub behind : (n : ℕ) (xs ys : List Check) → avoids n xs ≡ true → (Passed xs → PassAt n ys) → PassAt n (xs ++ ys)
@@ -69,12 +69,12 @@ behind n [] ys e h = h tt
 behind n (c ∷ xs) ys e h = ((avoided n (c ∷ xs) e).0, λ p. behind n xs ys (and_right (not (eqb c.number n)) (avoids n xs) e) (λ q. h (p, q)))
 
 -- a balance within the money's range on both sides
-bal-fits : (a p : ℕ) → a ≤ 999999999999 → p ≤ 999999999999 → balanceOk (bal a p) ≡ true
-unfolding balanceOk
-bal-fits a zero h h' = le-leb (a + 0) 999999999999 (omega arith)
-bal-fits a (suc p) h h' = go (ltb a (suc p))
+bal_fits : (a p : ℕ) → a ≤ 999999999999 → p ≤ 999999999999 → balance_ok (bal a p) ≡ true
+unfolding balance_ok
+bal_fits a zero h h' = le-leb (a + 0) 999999999999 (omega arith)
+bal_fits a (suc p) h h' = go (ltb a (suc p))
   where
-    go : (x : Bool) → balanceOk (cond x (negsuc (suc p - suc a)) (pos (a - suc p))) ≡ true
+    go : (x : Bool) → balance_ok (cond x (negsuc (suc p - suc a)) (pos (a - suc p))) ≡ true
     go true = le-leb (suc p - suc a) 999999999998 (omega arith)
     go false = le-leb (a - suc p) 999999999999 (omega arith)
 
@@ -82,16 +82,16 @@ long_of : (d : Dims) (b : List ℤ) → length b ≡ total (shapes d) → length
 unfolding numbers
 long_of d b e = e
 
-dims-pass : (d : Dims) → Dimensioned d → every (dimsTests d) ≡ true
-unfolding dimsTests
-dims-pass d h =
-    each-every (dimsTests d) (
-      in_within d.warehouses 1 20 h.warehouses-low h.warehouses-high,
+dims_pass : (d : Dims) → Dimensioned d → every (dims_tests d) ≡ true
+unfolding dims_tests
+dims_pass d h =
+    each-every (dims_tests d) (
+      in_within d.warehouses 1 20 h.warehouses_low h.warehouses_high,
       (
-        in_within d.customers 1 3000 h.customers-low h.customers-high,
+        in_within d.customers 1 3000 h.customers_low h.customers_high,
         (
-          in_within d.items 1 100000 h.items-low h.items-high,
-          (in_within d.orders 1 10000 h.orders-low h.orders-high, (in_within d.histories 1 1000000 h.histories-low h.histories-high, tt)),
+          in_within d.items 1 100000 h.items_low h.items_high,
+          (in_within d.orders 1 10000 h.orders_low h.orders_high, (in_within d.histories 1 1000000 h.histories_low h.histories_high, tt)),
         ),
       ),
     )
@@ -102,153 +102,153 @@ module _ (D : Dims) (b₀ : List ℤ) (t : Tally) (b : List ℤ) (g : Good D b�
   order_row w k j r s h =
       let x = (g.agrees.order.slots w k j r s h).row in
       record {
-        customer-low = nat_low x.customer;
-        customer-high = nat-high x.customer;
-        date-low = nat_low x.date;
-        date-high = nat-high x.date;
+        customer_low = nat_low x.customer;
+        customer_high = nat-high x.customer;
+        date_low = nat_low x.date;
+        date_high = nat-high x.date;
         carried = nat-high x.carrier;
         count_low = nat_low x.count;
-        count-high = nat-high x.count;
+        count_high = nat-high x.count;
         local = nat-high x.local;
         waits = nat-high x.waits;
         lines = λ j q.
             let l = x.lines j q in
             record {
-              item-low = nat_low l.item;
-              item-high = nat-high l.item;
-              supply-low = nat_low l.supply;
-              supply-high = nat-high l.supply;
-              quantity-low = nat_low l.quantity;
-              quantity-high = nat-high l.quantity;
-              amount-low = nat_low l.amount;
-              amount-high = nat-high l.amount;
-              date-high = nat-high l.date;
+              item_low = nat_low l.item;
+              item_high = nat-high l.item;
+              supply_low = nat_low l.supply;
+              supply_high = nat-high l.supply;
+              quantity_low = nat_low l.quantity;
+              quantity_high = nat-high l.quantity;
+              amount_low = nat_low l.amount;
+              amount_high = nat-high l.amount;
+              date_high = nat-high l.date;
             };
       }
 
-  pub orders-in : (w k : ℕ) → R D.warehouses w → R 10 k → (o : ℕ) → R (num (shapes D) b (nextOrder w k) - 1) o → OrderIn D b w k o
-  orders-in w k r s zero q = absurd (omega (arith, q.lo))
-  orders-in w k r s (suc j) q = order_row w k j r s (omega (arith, q.hi, next-num D b₀ t b g.agrees w k r s))
+  pub orders_in : (w k : ℕ) → R D.warehouses w → R 10 k → (o : ℕ) → R (num (shapes D) b (next_order w k) - 1) o → OrderIn D b w k o
+  orders_in w k r s zero q = absurd (omega (arith, q.lo))
+  orders_in w k r s (suc j) q = order_row w k j r s (omega (arith, q.hi, next-num D b₀ t b g.agrees w k r s))
 
 module _ (D : Dims) (b₀ : List ℤ) (names : List ℕ) (fr : Fresh D b₀ names) (t : Tally) (b : List ℤ) (g : Good D b₀ t b) where
   -- ── the bounds, in numbers ──
-  payments-le : length t.payments ≤ 1000000
-  payments-le = omega (arith, g.agrees.head.room, fr.shaped.dimsd.histories-high)
+  payments_le : length t.payments ≤ 1000000
+  payments_le = omega (arith, g.agrees.head.room, fr.shaped.dimsd.histories_high)
 
-  lots-le : (w i : ℕ) → t.lots w i ≤ 300000000
-  lots-le w i =
+  lots_le : (w i : ℕ) → t.lots w i ≤ 300000000
+  lots_le w i =
       omega (
         arith,
         g.sane.lots w i,
-        placed-le D t g.agrees.order.nle,
-        mul-le-mul tens fr.shaped.dimsd.warehouses-high,
+        placed_le D t g.agrees.order.nle,
+        mul-le-mul tens fr.shaped.dimsd.warehouses_high,
       )
     where
       tens : D.orders * 10 ≤ 100000
-      tens = omega (arith, fr.shaped.dimsd.orders-high)
+      tens = omega (arith, fr.shaped.dimsd.orders_high)
 
-  orders-le : (w k : ℕ) → N t w k ≤ 10000
-  orders-le w k = omega (arith, g.agrees.order.nle w k, fr.shaped.dimsd.orders-high)
+  orders_le : (w k : ℕ) → N t w k ≤ 10000
+  orders_le w k = omega (arith, g.agrees.order.nle w k, fr.shaped.dimsd.orders_high)
 
-  charged-le : (w k c : ℕ) → charged t w k c ≤ 999999999999
-  charged-le w k c = omega (arith, sums-le c (t.orders w k) (M t w k) (g.sane.low w k), orders-le w k)
+  charged_le : (w k c : ℕ) → charged t w k c ≤ 999999999999
+  charged_le w k c = omega (arith, sums_le c (t.orders w k) (M t w k) (g.sane.low w k), orders_le w k)
 
   -- ── every row is in range ──
   warehouse-row : (w : ℕ) → R D.warehouses w → WarehouseIn D b w
   warehouse-row w r = record {
-    tax = rw (g.agrees.warehouse.tax w r) (fr.warehouse-tax w r);
-    ytd = rw (g.agrees.warehouse.ytd w r, nat-pos (t.warehouse w)) (omega (arith, g.sane.warehouse w, payments-le));
+    tax = rw (g.agrees.warehouse.tax w r) (fr.warehouse_tax_lem w r);
+    ytd = rw (g.agrees.warehouse.ytd w r, nat-pos (t.warehouse w)) (omega (arith, g.sane.warehouse w, payments_le));
   }
 
   district-row : (w k : ℕ) → R D.warehouses w → R 10 k → DistrictIn D b w k
   district-row w k r s =
       let en = next-num D b₀ t b g.agrees w k r s in
       record {
-        tax = rw (g.agrees.district.tax w k r s) (fr.district-tax w k r s);
-        ytd = rw (g.agrees.district.ytd w k r s, nat-pos (t.district w k)) (omega (arith, g.sane.district w k, payments-le));
+        tax = rw (g.agrees.district.tax w k r s) (fr.district_tax_lem w k r s);
+        ytd = rw (g.agrees.district.ytd w k r s, nat-pos (t.district w k)) (omega (arith, g.sane.district w k, payments_le));
         next_low = omega (arith, en);
-        next-high = omega (arith, en, g.agrees.order.nle w k);
+        next_high = omega (arith, en, g.agrees.order.nle w k);
       }
 
   customer-row : (w k c : ℕ) → R D.warehouses w → R 10 k → R D.customers c → CustomerIn D b w k c
   customer-row w k c r s u =
-      let paid-le : t.paid w k c ≤ 999999999999 = omega (arith, g.sane.paid w k c, payments-le) in
+      let paid-le : t.paid w k c ≤ 999999999999 = omega (arith, g.sane.paid w k c, payments_le) in
       record {
         credit = rw (g.agrees.customer.credit w k c r s u) (fr.credit w k c r s u);
         rate = rw (g.agrees.customer.rate w k c r s u) (fr.rate w k c r s u);
-        balanced = ap balanceOk (g.agrees.customer.bals w k c r s u) ∙ bal-fits (charged t w k c) (t.paid w k c) (charged-le w k c) paid-le;
+        balanced = ap balance_ok (g.agrees.customer.bals w k c r s u) ∙ bal_fits (charged t w k c) (t.paid w k c) (charged_le w k c) paid-le;
         paid = rw (g.agrees.customer.ytd w k c r s u, nat-pos (t.paid w k c)) paid-le;
-        payments = rw (g.agrees.customer.payments-are w k c r s u, nat-pos (timesOf (isPayer w k c) t.payments)) (omega (arith, times-le (isPayer w k c) t.payments, payments-le));
-        deliveries = rw (g.agrees.customer.deliveries-are w k c r s u, nat-pos (handedTo t w k c)) (omega (arith, orders-by-le c (t.orders w k) (M t w k), orders-le w k));
+        payments = rw (g.agrees.customer.payments_are w k c r s u, nat-pos (times_of (is_payer w k c) t.payments)) (omega (arith, times_le (is_payer w k c) t.payments, payments_le));
+        deliveries = rw (g.agrees.customer.deliveries_are w k c r s u, nat-pos (handed_to t w k c)) (omega (arith, orders_by_le c (t.orders w k) (M t w k), orders_le w k));
       }
 
   item-row : (i : ℕ) → R D.items i → ItemIn D b i
-  item-row i r = record { price-high = rw (g.agrees.item.prices i r) (fr.prices i r) }
+  item-row i r = record { price_high = rw (g.agrees.item.prices i r) (fr.prices i r) }
 
   stock-row : (w i : ℕ) → R D.warehouses w → R D.items i → StockIn D b w i
   stock-row w i r s =
       record {
         hand = count-nat (g.agrees.stock.hand w i r s);
-        ytd = rw (g.agrees.stock.ytd w i r s, nat-pos (t.lots w i)) (omega (arith, lots-le w i));
-        orders = omega (arith, count-nat (g.agrees.stock.orders-to w i r s), lots-le w i);
-        remotes = omega (arith, count-nat (g.agrees.stock.remotes-to w i r s), lots-le w i);
+        ytd = rw (g.agrees.stock.ytd w i r s, nat-pos (t.lots w i)) (omega (arith, lots_le w i));
+        orders = omega (arith, count-nat (g.agrees.stock.orders_to w i r s), lots_le w i);
+        remotes = omega (arith, count-nat (g.agrees.stock.remotes_to w i r s), lots_le w i);
       }
 
   -- ── the tests of used rows ──
-  head-pass : headOk b (length names) ≡ true
-  unfolding headOk sizeTests
-  head-pass =
+  head_pass : head_ok b (length names) ≡ true
+  unfolding head_ok size_tests
+  head_pass =
       let ed = g.agrees.head.head in
-      let en : num (shapes D) b historyCount ≡ length t.payments = ap nat g.agrees.head.count ∙ nat-pos (length t.payments) in
+      let en : num (shapes D) b history_count ≡ length t.payments = ap nat g.agrees.head.count ∙ nat-pos (length t.payments) in
       let el : length b ≡ numbers D = long_of D b g.agrees.head.len in
-      subst (λ (d : Dims). every (leb 6 (length b) ∷ every (dimsTests d) ∷ every (leb (cell b 5) d.histories ∷ eqb (length b) (numbers d) ∷ eqb (length names) (nameBytes d) ∷ []) ∷ []) ≡ true) (sym ed)
-      (each-every (leb 6 (length b) ∷ every (dimsTests D) ∷ every (leb (cell b 5) D.histories ∷ eqb (length b) (numbers D) ∷ eqb (length names) (nameBytes D) ∷ []) ∷ []) (
+      subst (λ (d : Dims). every (leb 6 (length b) ∷ every (dims_tests d) ∷ every (leb (cell b 5) d.histories ∷ eqb (length b) (numbers d) ∷ eqb (length names) (name_bytes d) ∷ []) ∷ []) ≡ true) (sym ed)
+      (each-every (leb 6 (length b) ∷ every (dims_tests D) ∷ every (leb (cell b 5) D.histories ∷ eqb (length b) (numbers D) ∷ eqb (length names) (name_bytes D) ∷ []) ∷ []) (
         le-leb 6 (length b) (omega (arith, el, fr.shaped.long, fr.shaped.six)),
         (
-          dims-pass D fr.shaped.dimsd,
+          dims_pass D fr.shaped.dimsd,
           (
-            each-every (leb (cell b 5) D.histories ∷ eqb (length b) (numbers D) ∷ eqb (length names) (nameBytes D) ∷ [])
+            each-every (leb (cell b 5) D.histories ∷ eqb (length b) (numbers D) ∷ eqb (length names) (name_bytes D) ∷ [])
                 (le-leb (cell b 5) D.histories (omega (arith, head-num D b, en, g.agrees.head.room)), (eq-eqb _ _ el, (eq-eqb _ _ fr.shaped.names, tt))),
             tt,
           ),
         ),
       ))
 
-  who-pass : (w k : ℕ) (who : Who) → R D.warehouses w → R 10 k → every (whoTests D who) ≡ true → whoUsed D b names w k who ≡ true
-  unfolding whoUsed
-  who-pass w k (byNumber c) r s e = in-customer D b w k c (customer-row w k c r s (in-range c D.customers e))
-  who-pass w k (byName name) r s e =
-      each-every (customersUsed D b w k ∷ namesUsed D names w k ∷ []) (at-customers D b w k (λ c u. customer-row w k c r s u), (fr.named w k r s, tt))
+  who_pass : (w k : ℕ) (who : Who) → R D.warehouses w → R 10 k → every (who_tests D who) ≡ true → who_used D b names w k who ≡ true
+  unfolding who_used
+  who_pass w k (by_number c) r s e = in_customer D b w k c (customer-row w k c r s (in_range c D.customers e))
+  who_pass w k (by_name name) r s e =
+      each-every (customers_used D b w k ∷ names_used D names w k ∷ []) (at-customers D b w k (λ c u. customer-row w k c r s u), (fr.named w k r s, tt))
 
-  line-pass : (l : Line) → R D.warehouses l.supply → lineUsed D b l ≡ true
-  unfolding lineUsed
-  line-pass l r = go (listed D l) refl
+  line_pass : (l : Line) → R D.warehouses l.supply → line_used D b l ≡ true
+  unfolding line_used
+  line_pass l r = go (listed D l) refl
     where
-      go : (x : Bool) → listed D l ≡ x → cond x (every (itemUsed D b l.item ∷ stockUsed D b l.supply l.item ∷ [])) true ≡ true
+      go : (x : Bool) → listed D l ≡ x → cond x (every (item_used D b l.item ∷ stock_used D b l.supply l.item ∷ [])) true ≡ true
       go false e = refl
       go true e =
           let i : R D.items l.item = record {
             lo = leb-true _ _ (and_left (leb 1 l.item) (leb l.item D.items) e);
             hi = leb-true _ _ (and_right (leb 1 l.item) (leb l.item D.items) e);
           } in
-          each-every (itemUsed D b l.item ∷ stockUsed D b l.supply l.item ∷ [])
-          (in_item D b l.item (item-row l.item i), (in-stock D b l.supply l.item (stock-row l.supply l.item r i), tt))
+          each-every (item_used D b l.item ∷ stock_used D b l.supply l.item ∷ [])
+          (in_item D b l.item (item-row l.item i), (in_stock D b l.supply l.item (stock-row l.supply l.item r i), tt))
 
-  lines-pass : (ls : List Line) → eqb (failing (suppliable D) 1 ls) 0 ≡ true → all_of (lineUsed D b) ls ≡ true
-  lines-pass ls e =
-      in-all-of (lineUsed D b) ls
-      (all-in-map (λ l. suppliable D l ≡ true) (λ l. lineUsed D b l ≡ true) (λ l p. line-pass l (line-asked D l p).supply) ls (none-failing (suppliable D) 0 ls e))
+  lines_pass : (ls : List Line) → eqb (failing (suppliable D) 1 ls) 0 ≡ true → all_of (line_used D b) ls ≡ true
+  lines_pass ls e =
+      in_all_of (line_used D b) ls
+      (all_in_map (λ l. suppliable D l ≡ true) (λ l. line_used D b l ≡ true) (λ l p. line_pass l (line-asked D l p).supply) ls (none-failing (suppliable D) 0 ls e))
 
-  deliverable-pass : (w k : ℕ) → R D.warehouses w → R 10 k → deliverable D b w k ≡ true
+  deliverable_pass : (w k : ℕ) → R D.warehouses w → R 10 k → deliverable D b w k ≡ true
   unfolding deliverable
-  deliverable-pass w k r s =
-      each-every (districtUsed D b w k ∷ customersUsed D b w k ∷ ordersUsed D b w k ∷ [])
-      (in-district D b w k (district-row w k r s), (at-customers D b w k (λ c u. customer-row w k c r s u), (at-orders D b w k (orders-in D b₀ t b g w k r s), tt)))
+  deliverable_pass w k r s =
+      each-every (district_used D b w k ∷ customers_used D b w k ∷ orders_used D b w k ∷ [])
+      (in_district D b w k (district-row w k r s), (at-customers D b w k (λ c u. customer-row w k c r s u), (at-orders D b w k (orders_in D b₀ t b g w k r s), tt)))
 
   -- ── 9, call by call ──
-  pay-9 : (notes : List ℕ) (q : Payment) (who : Who) → PassAt 9 (chk (headOk b (length names)) 2 ∷ payFirst D notes q who ++ payUsed D b names q who)
-  unfolding payAsked payUsed
-  pay-9 notes q who = (
+  pay_9 : (notes : List ℕ) (q : Payment) (who : Who) → PassAt 9 (chk (head_ok b (length names)) 2 ∷ pay_first D notes q who ++ pay_used D b names q who)
+  unfolding pay_asked pay_used
+  pay_9 notes q who = (
     tt,
     λ _. (
       tt,
@@ -265,15 +265,15 @@ module _ (D : Dims) (b₀ : List ℤ) (names : List ℕ) (fr : Fresh D b₀ name
                 λ _.
                     let f4 = every-each (within q.warehouse 1 D.warehouses ∷ within q.custwarehouse 1 D.warehouses ∷ []) e4 in
                     let f5 = every-each (within q.district 1 10 ∷ within q.custdistrict 1 10 ∷ []) e5 in
-                    let w = in-range q.warehouse D.warehouses f4.0 in
-                    let cw = in-range q.custwarehouse D.warehouses f4.1.0 in
-                    let k = in-range q.district 10 f5.0 in
-                    let ck = in-range q.custdistrict 10 f5.1.0 in (
-                      in-warehouse D b q.warehouse (warehouse-row q.warehouse w),
+                    let w = in_range q.warehouse D.warehouses f4.0 in
+                    let cw = in_range q.custwarehouse D.warehouses f4.1.0 in
+                    let k = in_range q.district 10 f5.0 in
+                    let ck = in_range q.custdistrict 10 f5.1.0 in (
+                      in_warehouse D b q.warehouse (warehouse-row q.warehouse w),
                       λ _. (
-                        in-district D b q.warehouse q.district (district-row q.warehouse q.district w k),
+                        in_district D b q.warehouse q.district (district-row q.warehouse q.district w k),
                         λ _.
-                            (who-pass q.custwarehouse q.custdistrict who cw ck e6, λ _. (tt, λ _. (tt, λ _. tt))),
+                            (who_pass q.custwarehouse q.custdistrict who cw ck e6, λ _. (tt, λ _. (tt, λ _. tt))),
                       ),
                     ),
               ),
@@ -284,9 +284,9 @@ module _ (D : Dims) (b₀ : List ℤ) (names : List ℕ) (fr : Fresh D b₀ name
     ),
   )
 
-  new-9 : (last topup : List ℤ) (q : NewOrder) (ls : List Line) → PassAt 9 (chk (headOk b (length names)) 2 ∷ newAsked D q ls ++ newUsed D b last topup q ls)
-  unfolding newAsked newUsed
-  new-9 last topup q ls = (
+  new_9 : (last topup : List ℤ) (q : NewOrder) (ls : List Line) → PassAt 9 (chk (head_ok b (length names)) 2 ∷ new_asked D q ls ++ new_used D b last topup q ls)
+  unfolding new_asked new_used
+  new_9 last topup q ls = (
     tt,
     λ _. (
       tt,
@@ -301,15 +301,15 @@ module _ (D : Dims) (b₀ : List ℤ) (names : List ℕ) (fr : Fresh D b₀ name
               λ _. (
                 tt,
                 λ e8.
-                    let w = in-range q.warehouse D.warehouses e4 in
-                    let k = in-range q.district 10 e5 in
-                    let c = in-range q.customer D.customers e6 in (
-                      in-warehouse D b q.warehouse (warehouse-row q.warehouse w),
+                    let w = in_range q.warehouse D.warehouses e4 in
+                    let k = in_range q.district 10 e5 in
+                    let c = in_range q.customer D.customers e6 in (
+                      in_warehouse D b q.warehouse (warehouse-row q.warehouse w),
                       λ _. (
-                        in-district D b q.warehouse q.district (district-row q.warehouse q.district w k),
+                        in_district D b q.warehouse q.district (district-row q.warehouse q.district w k),
                         λ _. (
-                          in-customer D b q.warehouse q.district q.customer (customer-row q.warehouse q.district q.customer w k c),
-                          λ _. (lines-pass ls e8, λ _. (tt, λ _. (tt, λ _. (tt, λ _. (tt, λ _. (tt, λ _. tt)))))),
+                          in_customer D b q.warehouse q.district q.customer (customer-row q.warehouse q.district q.customer w k c),
+                          λ _. (lines_pass ls e8, λ _. (tt, λ _. (tt, λ _. (tt, λ _. (tt, λ _. (tt, λ _. tt)))))),
                         ),
                       ),
                     ),
@@ -321,14 +321,14 @@ module _ (D : Dims) (b₀ : List ℤ) (names : List ℕ) (fr : Fresh D b₀ name
     ),
   )
 
-  delivery-9 : (q : Delivery) → PassAt 9 (chk (headOk b (length names)) 2 ∷ deliveryAsked D q ++ deliveryUsed D b q)
-  unfolding deliveryAsked deliveryUsed
-  delivery-9 q =
-      (tt, λ _. (tt, λ e4. (tt, λ _. (tt, λ _. (all-to (deliverable D b q.warehouse) 10 (λ k s. deliverable-pass q.warehouse k (in-range q.warehouse D.warehouses e4) s), λ _. tt)))))
+  delivery_9 : (q : Delivery) → PassAt 9 (chk (head_ok b (length names)) 2 ∷ delivery_asked D q ++ delivery_used D b q)
+  unfolding delivery_asked delivery_used
+  delivery_9 q =
+      (tt, λ _. (tt, λ e4. (tt, λ _. (tt, λ _. (all-to (deliverable D b q.warehouse) 10 (λ k s. deliverable_pass q.warehouse k (in_range q.warehouse D.warehouses e4) s), λ _. tt)))))
 
-  status-9 : (last : List ℤ) (q : OrderStatus) (who : Who) → PassAt 9 (chk (headOk b (length names)) 2 ∷ statusAsked D q who ++ statusUsed D b names last q who)
-  unfolding statusAsked statusUsed
-  status-9 last q who = (
+  status_9 : (last : List ℤ) (q : OrderStatus) (who : Who) → PassAt 9 (chk (head_ok b (length names)) 2 ∷ status_asked D q who ++ status_used D b names last q who)
+  unfolding status_asked status_used
+  status_9 last q who = (
     tt,
     λ _. (
       tt,
@@ -337,11 +337,11 @@ module _ (D : Dims) (b₀ : List ℤ) (names : List ℕ) (fr : Fresh D b₀ name
         λ e5. (
           tt,
           λ e6.
-              let w = in-range q.warehouse D.warehouses e4 in
-              let k = in-range q.district 10 e5 in (
-                in-district D b q.warehouse q.district (district-row q.warehouse q.district w k),
+              let w = in_range q.warehouse D.warehouses e4 in
+              let k = in_range q.district 10 e5 in (
+                in_district D b q.warehouse q.district (district-row q.warehouse q.district w k),
                 λ _. (
-                  who-pass q.warehouse q.district who w k e6,
+                  who_pass q.warehouse q.district who w k e6,
                   λ _. (tt, λ _. (tt, λ _. (tt, λ _. (tt, λ _. tt)))),
                 ),
               ),
@@ -350,9 +350,9 @@ module _ (D : Dims) (b₀ : List ℤ) (names : List ℕ) (fr : Fresh D b₀ name
     ),
   )
 
-  level-9 : (q : StockLevel) → PassAt 9 (chk (headOk b (length names)) 2 ∷ levelAsked D q ++ levelUsed D b q)
-  unfolding levelAsked levelUsed
-  level-9 q = (
+  level_9 : (q : StockLevel) → PassAt 9 (chk (head_ok b (length names)) 2 ∷ level_asked D q ++ level_used D b q)
+  unfolding level_asked level_used
+  level_9 q = (
     tt,
     λ _. (
       tt,
@@ -361,13 +361,13 @@ module _ (D : Dims) (b₀ : List ℤ) (names : List ℕ) (fr : Fresh D b₀ name
         λ e5. (
           tt,
           λ _.
-              let w = in-range q.warehouse D.warehouses e4 in
-              let k = in-range q.district 10 e5 in
+              let w = in_range q.warehouse D.warehouses e4 in
+              let k = in_range q.district 10 e5 in
               let d = district-row q.warehouse q.district w k in (
-                in-district D b q.warehouse q.district d,
+                in_district D b q.warehouse q.district d,
                 λ _. (
-                  at-window D b q.warehouse q.district d.next_low (orders-in D b₀ t b g q.warehouse q.district w k),
-                  λ _. (all-to (stockUsed D b q.warehouse) D.items (λ i s. in-stock D b q.warehouse i (stock-row q.warehouse i w s)), λ _. tt),
+                  at-window D b q.warehouse q.district d.next_low (orders_in D b₀ t b g q.warehouse q.district w k),
+                  λ _. (all-to (stock_used D b q.warehouse) D.items (λ i s. in_stock D b q.warehouse i (stock-row q.warehouse i w s)), λ _. tt),
                 ),
               ),
         ),
@@ -379,30 +379,30 @@ module _ (D : Dims) (b₀ : List ℤ) (names : List ℕ) (fr : Fresh D b₀ name
   abbrev Not239 : ℕ → Type 0
   Not239 n = (n ≢ 2) × ((n ≢ 3) × (n ≢ 9))
 
-  all_three : (cs : List Check) → avoids 2 cs ≡ true → avoids 3 cs ≡ true → PassAt 9 (chk (headOk b (length names)) 2 ∷ cs) → Not239 (fault (chk (headOk b (length names)) 2 ∷ cs)).number
+  all_three : (cs : List Check) → avoids 2 cs ≡ true → avoids 3 cs ≡ true → PassAt 9 (chk (head_ok b (length names)) 2 ∷ cs) → Not239 (fault (chk (head_ok b (length names)) 2 ∷ cs)).number
   all_three cs e2 e3 p = (
-    not-answered 2 (chk (headOk b (length names)) 2 ∷ cs) (omega arith) (head-pass, λ _. avoided 2 cs e2),
-    (not-answered 3 (chk (headOk b (length names)) 2 ∷ cs) (omega arith) (tt, λ _. avoided 3 cs e3), not-answered 9 (chk (headOk b (length names)) 2 ∷ cs) (omega arith) p),
+    not_answered 2 (chk (head_ok b (length names)) 2 ∷ cs) (omega arith) (head_pass, λ _. avoided 2 cs e2),
+    (not_answered 3 (chk (head_ok b (length names)) 2 ∷ cs) (omega arith) (tt, λ _. avoided 3 cs e3), not_answered 9 (chk (head_ok b (length names)) 2 ∷ cs) (omega arith) p),
   )
 
-  sized : (f : Dims → List Check) → Not239 (fault (chk (headOk b (length names)) 2 ∷ f D)).number → Not239 (fault (chk (headOk b (length names)) 2 ∷ f (dims b))).number
-  sized f h = subst (λ (d : Dims). Not239 (fault (chk (headOk b (length names)) 2 ∷ f d)).number) (sym g.agrees.head.head) h
+  sized : (f : Dims → List Check) → Not239 (fault (chk (head_ok b (length names)) 2 ∷ f D)).number → Not239 (fault (chk (head_ok b (length names)) 2 ∷ f (dims b))).number
+  sized f h = subst (λ (d : Dims). Not239 (fault (chk (head_ok b (length names)) 2 ∷ f d)).number) (sym g.agrees.head.head) h
 
-  never-call : (last : List ℤ) (notes : List ℕ) (topup : List ℤ) (r : Request) → Not239 (faultOf (lent b names last notes topup) r).number
-  unfolding faultOf newOrderFault paymentFault deliveryFault statusFault stockLevelFault newAsked newUsed payAsked payUsed deliveryAsked deliveryUsed statusAsked statusUsed levelAsked levelUsed
-  never-call last notes topup (newOrder q ls) = sized (λ d. newAsked d q ls ++ newUsed d b last topup q ls) (all_three (newAsked D q ls ++ newUsed D b last topup q ls) refl refl (new-9 last topup q ls))
-  never-call last notes topup (payment q who) = sized (λ d. payFirst d notes q who ++ payUsed d b names q who) (all_three (payFirst D notes q who ++ payUsed D b names q who) refl refl (pay-9 notes q who))
-  never-call last notes topup (delivery q) = sized (λ d. deliveryAsked d q ++ deliveryUsed d b q) (all_three (deliveryAsked D q ++ deliveryUsed D b q) refl refl (delivery-9 q))
-  never-call last notes topup (orderStatus q who) = sized (λ d. statusAsked d q who ++ statusUsed d b names last q who) (all_three (statusAsked D q who ++ statusUsed D b names last q who) refl refl (status-9 last q who))
-  never-call last notes topup (stockLevel q) = sized (λ d. levelAsked d q ++ levelUsed d b q) (all_three (levelAsked D q ++ levelUsed D b q) refl refl (level-9 q))
+  never-call : (last : List ℤ) (notes : List ℕ) (topup : List ℤ) (r : Request) → Not239 (fault_of (lent b names last notes topup) r).number
+  unfolding fault_of new_order_fault payment_fault delivery_fault status_fault stock_level_fault new_asked new_used pay_asked pay_used delivery_asked delivery_used status_asked status_used level_asked level_used
+  never-call last notes topup (new_order q ls) = sized (λ d. new_asked d q ls ++ new_used d b last topup q ls) (all_three (new_asked D q ls ++ new_used D b last topup q ls) refl refl (new_9 last topup q ls))
+  never-call last notes topup (payment q who) = sized (λ d. pay_first d notes q who ++ pay_used d b names q who) (all_three (pay_first D notes q who ++ pay_used D b names q who) refl refl (pay_9 notes q who))
+  never-call last notes topup (delivery q) = sized (λ d. delivery_asked d q ++ delivery_used d b q) (all_three (delivery_asked D q ++ delivery_used D b q) refl refl (delivery_9 q))
+  never-call last notes topup (order_status q who) = sized (λ d. status_asked d q who ++ status_used d b names last q who) (all_three (status_asked D q who ++ status_used D b names last q who) refl refl (status_9 last q who))
+  never-call last notes topup (stock_level q) = sized (λ d. level_asked d q ++ level_used d b q) (all_three (level_asked D q ++ level_used D b q) refl refl (level_9 q))
 
 -- one call, whatever is lent beside numbers and names
 pub never-step : (D : Dims) (b₀ : List ℤ) (t : Tally) (s : Lent) → Fresh D b₀ s.names → Good D b₀ t s.nums → (r : Request)
-    → ((faultOf s r).number ≢ 2) × (((faultOf s r).number ≢ 3) × ((faultOf s r).number ≢ 9))
+    → ((fault_of s r).number ≢ 2) × (((fault_of s r).number ≢ 3) × ((fault_of s r).number ≢ 9))
 never-step D b₀ t s fr g r = never-call D b₀ s.names fr t s.nums g s.last s.notes s.topup r
 
-pub never-list : (D : Dims) (b₀ : List ℤ) (rs : List Request) (t : Tally) (s : Lent) → Fresh D b₀ s.names → Good D b₀ t s.nums → Never (doneAll s rs)
-never-list D b₀ [] t s fr g = tt
-never-list D b₀ (r ∷ rs) t s fr g =
+pub never_list : (D : Dims) (b₀ : List ℤ) (rs : List Request) (t : Tally) (s : Lent) → Fresh D b₀ s.names → Good D b₀ t s.nums → Never (done_all s rs)
+never_list D b₀ [] t s fr g = tt
+never_list D b₀ (r ∷ rs) t s fr g =
     let n = never-step D b₀ t s fr g r in
-    (n.0, (n.1.0, (n.1.1, never-list D b₀ rs (counted D b₀ t s r) (after s r) fr (call_step D b₀ t s g r))))
+    (n.0, (n.1.0, (n.1.1, never_list D b₀ rs (counted D b₀ t s r) (after s r) fr (call_step D b₀ t s g r))))

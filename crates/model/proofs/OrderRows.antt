@@ -19,11 +19,11 @@ use Rattle.model.specs.Tests.{all_of}
 use Rattle.model.specs.Numbers.{nat}
 use Rattle.model.specs.Lists.{up_to, sum_of}
 use Rattle.model.specs.Rows.{line}
-use Rattle.model.specs.NewOrder.{lineNumbers, orderNumbers}
-use Rattle.model.specs.Delivery.{lineAmounts, handOver}
+use Rattle.model.specs.NewOrder.{line_numbers, order_numbers}
+use Rattle.model.specs.Delivery.{line_amounts, hand_over}
 use Rattle.model.specs.Tally.{Order, worth}
 use Rattle.model.specs.Claim.{R}
-use Rattle.model.proofs.ListLaws.{up_same, up-cons}
+use Rattle.model.proofs.ListLaws.{up_same, up_cons}
 use Rattle.model.proofs.NumberLaws.{nat-pos}
 use Rattle.model.proofs.RowFacts.{AllIn}
 
@@ -74,23 +74,23 @@ pub record Delivered (r : ℕ → ℤ) : Type 0 where
 pub record SlotIs (D : Dims) (r : ℕ → ℤ) (x : Order) (wait : Bool) : Type 0 where
   pub flag : r 5 ≡ pos (cond wait 1 0)
   pub customer : r 0 ≡ pos x.customer
-  pub in-range : R D.customers x.customer
-  pub sum : sum_of (lineAmounts r) ≡ x.sum
+  pub in_range : R D.customers x.customer
+  pub sum : sum_of (line_amounts r) ≡ x.sum
   pub row : RowIs D r
   pub unused : (j : ℕ) → nat (r 3) < j → j ≤ 15 → (c : ℕ) → c ≤ 4 → line r j c ≡ pos 0
   pub waiting : wait ≡ true → Undelivered r
   pub done : wait ≡ false → Delivered r
 
 -- ── a row that moved as a whole ──
-line-col : (n j c : ℕ) → n ≤ 15 → R n j → c ≤ 4 → 1 + 5 * j + c < 81
-line-col n j c h r k = omega arith
+line_col : (n j c : ℕ) → n ≤ 15 → R n j → c ≤ 4 → 1 + 5 * j + c < 81
+line_col n j c h r k = omega arith
 
 pub slot-moved : (D : Dims) (r r' : ℕ → ℤ) (x : Order) (wait : Bool) → ((k : ℕ) → k < 81 → r' k ≡ r k) → SlotIs D r x wait → SlotIs D r' x wait
-unfolding lineAmounts
+unfolding line_amounts
 slot-moved D r r' x wait e s = record {
   flag = e 5 (omega arith) ∙ s.flag;
   customer = e 0 (omega arith) ∙ s.customer;
-  in-range = s.in-range;
+  in_range = s.in_range;
   sum =
       ap sum_of (ap (λ (z : ℤ). up_to (nat z) (λ j. nat (line r' j 3))) (e 3 (omega arith))
       ∙ up_same (nat (r 3)) (λ j. nat (line r' j 3)) (λ j. nat (line r j 3)) (λ j q. ap nat (at-line j 3 q (omega arith)))) ∙ s.sum;
@@ -128,7 +128,7 @@ slot-moved D r r' x wait e s = record {
     back j q = subst (λ (z : ℤ). R (nat z) j) (e 3 (omega arith)) q
 
     at-line : (j c : ℕ) → R (nat (r 3)) j → c ≤ 4 → line r' j c ≡ line r j c
-    at-line j c q h = e (1 + 5 * j + c) (line-col (nat (r 3)) j c (nat-high s.row.count) q h)
+    at-line j c q h = e (1 + 5 * j + c) (line_col (nat (r 3)) j c (nat-high s.row.count) q h)
 
 -- ── an order joins ──
 -- what is known of a line, at the prices pr
@@ -142,17 +142,17 @@ pub record Priced (pr : ℕ → ℕ) (l : Line) : Type 0 where
   pub high : pr l.item ≤ 99999
 
 module _ (D : Dims) (pr : ℕ → ℕ) where
-  words-in : (ls : List Line) → AllIn (LineStep D) ls → AllIn (Priced pr) ls → (i : ℕ) → i < length ls → LineIs D (λ c. get_or (lineNumbers pr ls) (5 * i + c) (pos 0))
-  words-in [] s p i h = absurd (not-suc-le-zero h)
-  words-in (l ∷ ls) s p zero h = record {
+  words_in : (ls : List Line) → AllIn (LineStep D) ls → AllIn (Priced pr) ls → (i : ℕ) → i < length ls → LineIs D (λ c. get_or (line_numbers pr ls) (5 * i + c) (pos 0))
+  words_in [] s p i h = absurd (not-suc-le-zero h)
+  words_in (l ∷ ls) s p zero h = record {
     item = exact l.item s.0.item.lo s.0.item.hi;
     supply = exact l.supply s.0.supply.lo s.0.supply.hi;
     quantity = exact l.quantity s.0.quantity.lo s.0.quantity.hi;
     amount = exact (l.quantity * pr l.item) (omega (arith, mul-le-mul s.0.quantity.lo p.0.low)) (omega (arith, mul-le-mul s.0.quantity.hi p.0.high));
     date = exact 0 (omega arith) (omega arith);
   }
-  words-in (l ∷ ls) s p (suc i) h =
-      let ih = words-in ls s.1 p.1 i (omega arith) in
+  words_in (l ∷ ls) s p (suc i) h =
+      let ih = words_in ls s.1 p.1 i (omega arith) in
       record {
         item = moved (shift 0) ih.item;
         supply = moved (shift 1) ih.supply;
@@ -161,58 +161,58 @@ module _ (D : Dims) (pr : ℕ → ℕ) where
         date = moved (shift 4) ih.date;
       }
     where
-      shift : (c : ℕ) → get_or (lineNumbers pr (l ∷ ls)) (5 * suc i + c) (pos 0) ≡ get_or (lineNumbers pr ls) (5 * i + c) (pos 0)
+      shift : (c : ℕ) → get_or (line_numbers pr (l ∷ ls)) (5 * suc i + c) (pos 0) ≡ get_or (line_numbers pr ls) (5 * i + c) (pos 0)
       shift c =
           let e : 5 * suc i + c ≡ suc (suc (suc (suc (suc (5 * i + c))))) = omega arith in
-          ap (λ (k : ℕ). get_or (lineNumbers pr (l ∷ ls)) k (pos 0)) e
+          ap (λ (k : ℕ). get_or (line_numbers pr (l ∷ ls)) k (pos 0)) e
 
-  words-dates : (ls : List Line) (i : ℕ) → i < length ls → get_or (lineNumbers pr ls) (5 * i + 4) (pos 0) ≡ pos 0
-  words-dates [] i h = absurd (not-suc-le-zero h)
-  words-dates (l ∷ ls) zero h = refl
-  words-dates (l ∷ ls) (suc i) h =
+  words_dates : (ls : List Line) (i : ℕ) → i < length ls → get_or (line_numbers pr ls) (5 * i + 4) (pos 0) ≡ pos 0
+  words_dates [] i h = absurd (not-suc-le-zero h)
+  words_dates (l ∷ ls) zero h = refl
+  words_dates (l ∷ ls) (suc i) h =
       let e : 5 * suc i + 4 ≡ suc (suc (suc (suc (suc (5 * i + 4))))) = omega arith in
-      ap (λ (k : ℕ). get_or (lineNumbers pr (l ∷ ls)) k (pos 0)) e ∙ words-dates ls i (omega arith)
+      ap (λ (k : ℕ). get_or (line_numbers pr (l ∷ ls)) k (pos 0)) e ∙ words_dates ls i (omega arith)
 
-  words-rest : (ls : List Line) (i c : ℕ) → length ls ≤ i → get_or (lineNumbers pr ls) (5 * i + c) (pos 0) ≡ pos 0
-  words-rest [] i c h = refl
-  words-rest (l ∷ ls) zero c h = absurd (omega arith)
-  words-rest (l ∷ ls) (suc i) c h =
+  words_rest : (ls : List Line) (i c : ℕ) → length ls ≤ i → get_or (line_numbers pr ls) (5 * i + c) (pos 0) ≡ pos 0
+  words_rest [] i c h = refl
+  words_rest (l ∷ ls) zero c h = absurd (omega arith)
+  words_rest (l ∷ ls) (suc i) c h =
       let e : 5 * suc i + c ≡ suc (suc (suc (suc (suc (5 * i + c))))) = omega arith in
-      ap (λ (k : ℕ). get_or (lineNumbers pr (l ∷ ls)) k (pos 0)) e ∙ words-rest ls i c (omega arith)
+      ap (λ (k : ℕ). get_or (line_numbers pr (l ∷ ls)) k (pos 0)) e ∙ words_rest ls i c (omega arith)
 
-  words-sum : (ls : List Line) → sum_of (up_to (length ls) (λ j. nat (get_or (lineNumbers pr ls) (5 * (j - 1) + 3) (pos 0)))) ≡ worth pr ls
+  words_sum : (ls : List Line) → sum_of (up_to (length ls) (λ j. nat (get_or (line_numbers pr ls) (5 * (j - 1) + 3) (pos 0)))) ≡ worth pr ls
   unfolding sum_of up_to nat
-  words-sum [] = refl
-  words-sum (l ∷ ls) =
-      ap sum_of (up-cons (length ls) (λ j. nat (get_or (lineNumbers pr (l ∷ ls)) (5 * (j - 1) + 3) (pos 0))))
-      ∙ ap (λ (xs : List ℕ). l.quantity * pr l.item + sum_of xs) (up_same (length ls) _ _ (λ j q. ap (λ (k : ℕ). nat (get_or (lineNumbers pr (l ∷ ls)) k (pos 0))) (five j q.lo)))
-      ∙ ap (λ (n : ℕ). l.quantity * pr l.item + n) (words-sum ls)
+  words_sum [] = refl
+  words_sum (l ∷ ls) =
+      ap sum_of (up_cons (length ls) (λ j. nat (get_or (line_numbers pr (l ∷ ls)) (5 * (j - 1) + 3) (pos 0))))
+      ∙ ap (λ (xs : List ℕ). l.quantity * pr l.item + sum_of xs) (up_same (length ls) _ _ (λ j q. ap (λ (k : ℕ). nat (get_or (line_numbers pr (l ∷ ls)) k (pos 0))) (five j q.lo)))
+      ∙ ap (λ (n : ℕ). l.quantity * pr l.item + n) (words_sum ls)
     where
       five : (j : ℕ) → 1 ≤ j → 5 * (suc j - 1) + 3 ≡ suc (suc (suc (suc (suc (5 * (j - 1) + 3)))))
       five j h = omega arith
 
-one-or : (x : Bool) → Between 0 1 (pos (cond x 1 0))
-one-or true = exact 1 (omega arith) (omega arith)
-one-or false = exact 0 (omega arith) (omega arith)
+one_or : (x : Bool) → Between 0 1 (pos (cond x 1 0))
+one_or true = exact 1 (omega arith) (omega arith)
+one_or false = exact 0 (omega arith) (omega arith)
 
-pub new-slot : (D : Dims) (pr : ℕ → ℕ) (q : NewOrder) (ls : List Line) → R D.customers q.customer → R 6342969600 q.date → R 15 (length ls)
+pub new_slot : (D : Dims) (pr : ℕ → ℕ) (q : NewOrder) (ls : List Line) → R D.customers q.customer → R 6342969600 q.date → R 15 (length ls)
     → AllIn (LineStep D) ls → AllIn (Priced pr) ls
-    → SlotIs D (λ k. get_or (orderNumbers pr q ls) k (pos 0)) (record { customer = q.customer; sum = worth pr ls }) true
-unfolding lineAmounts nat
-new-slot D pr q ls rc rd rl s p = record {
+    → SlotIs D (λ k. get_or (order_numbers pr q ls) k (pos 0)) (record { customer = q.customer; sum = worth pr ls }) true
+unfolding line_amounts nat
+new_slot D pr q ls rc rd rl s p = record {
   flag = refl;
   customer = refl;
-  in-range = rc;
-  sum = ap sum_of (up_same (length ls) _ _ (λ j h. ap nat (up j 3 h.lo))) ∙ words-sum D pr ls;
+  in_range = rc;
+  sum = ap sum_of (up_same (length ls) _ _ (λ j h. ap nat (up j 3 h.lo))) ∙ words_sum D pr ls;
   row = record {
     customer = exact q.customer rc.lo rc.hi;
     date = exact q.date rd.lo rd.hi;
     carrier = exact 0 (omega arith) (omega arith);
     count = exact (length ls) rl.lo rl.hi;
-    local = one-or (all_of (λ l. eqb l.supply q.warehouse) ls);
+    local = one_or (all_of (λ l. eqb l.supply q.warehouse) ls);
     waits = exact 1 (omega arith) (omega arith);
     lines = λ j h.
-        let l = words-in D pr ls s p (j - 1) (omega arith) in
+        let l = words_in D pr ls s p (j - 1) (omega arith) in
         record {
           item = moved (up j 0 h.lo) l.item;
           supply = moved (up j 1 h.lo) l.supply;
@@ -221,19 +221,19 @@ new-slot D pr q ls rc rd rl s p = record {
           date = moved (up j 4 h.lo) l.date;
         };
   };
-  unused = λ j h k c hc. up j c (omega arith) ∙ words-rest D pr ls (j - 1) c (omega arith);
-  waiting = λ w. record { carrier = refl; dates = λ j h. up j 4 h.lo ∙ words-dates D pr ls (j - 1) (omega arith) };
+  unused = λ j h k c hc. up j c (omega arith) ∙ words_rest D pr ls (j - 1) c (omega arith);
+  waiting = λ w. record { carrier = refl; dates = λ j h. up j 4 h.lo ∙ words_dates D pr ls (j - 1) (omega arith) };
   done = λ w. let z : ◌≡◌ {A = ℕ} 0 1 = cc in absurd (omega arith);
 }
   where
-    up : (j c : ℕ) → 1 ≤ j → get_or (orderNumbers pr q ls) (1 + 5 * j + c) (pos 0) ≡ get_or (lineNumbers pr ls) (5 * (j - 1) + c) (pos 0)
+    up : (j c : ℕ) → 1 ≤ j → get_or (order_numbers pr q ls) (1 + 5 * j + c) (pos 0) ≡ get_or (line_numbers pr ls) (5 * (j - 1) + c) (pos 0)
     up j c h =
         let e : 1 + 5 * j + c ≡ suc (suc (suc (suc (suc (suc (5 * (j - 1) + c)))))) = omega arith in
-        ap (λ (k : ℕ). get_or (orderNumbers pr q ls) k (pos 0)) e
+        ap (λ (k : ℕ). get_or (order_numbers pr q ls) k (pos 0)) e
 
 -- ── an order is delivered ──
 abbrev pub handed : ℕ → ℕ → ℕ → (ℕ → ℤ) → ℕ → ℤ
-handed car date n r k = handOver car date n k (r k)
+handed car date n r k = hand_over car date n k (r k)
 
 module _ (car date n : ℕ) (r : ℕ → ℤ) where
   -- a column of a line that is no date
@@ -268,11 +268,11 @@ module _ (car date n : ℕ) (r : ℕ → ℤ) where
           rw (e2, e5, em, el, eh)
 
 pub done-slot : (D : Dims) (car date : ℕ) (r : ℕ → ℤ) (x : Order) (wait : Bool) → R 10 car → R 6342969600 date → SlotIs D r x wait → SlotIs D (handed car date (nat (r 3)) r) x false
-unfolding lineAmounts
+unfolding line_amounts
 done-slot D car date r x wait rc rd s = record {
   flag = refl;
   customer = s.customer;
-  in-range = s.in-range;
+  in_range = s.in_range;
   sum = ap sum_of (up_same (nat (r 3)) _ _ (λ j q. ap nat (hand-plain car date (nat (r 3)) r j 3 q.lo (omega arith)))) ∙ s.sum;
   row = record {
     customer = s.row.customer;

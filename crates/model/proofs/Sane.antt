@@ -13,35 +13,35 @@ use Rattle.model.specs.declared.Dims.{Dims}
 use Rattle.model.specs.declared.Line.{Line}
 use Rattle.model.specs.declared.NewOrder.{NewOrder}
 use Rattle.model.specs.declared.Payment.{Payment}
-use Rattle.model.specs.Tally.{Tally, Order, Paid, N, is2, is3, addIf, sums, worth, tallyPayment, tallyLine, tallyLines, tallyOrder, tallyDistrict, tallyDistricts}
+use Rattle.model.specs.Tally.{Tally, Order, Paid, N, is2, is3, add_if, sums, worth, tally_payment, tally_line, tally_lines, tally_order, tally_district, tally_districts}
 use Rattle.model.specs.Claim.{R}
-use Rattle.model.proofs.ListLaws.{sum-le}
+use Rattle.model.proofs.ListLaws.{sum_le}
 use Rattle.model.proofs.RowFacts.{AllIn}
 use Rattle.model.proofs.OrderRows.{LineStep, Priced}
 use Rattle.model.proofs.Parts.{and_no}
-use Rattle.model.proofs.Sums.{sumUp, sum_same, sum-rise}
+use Rattle.model.proofs.Sums.{sum_up, sum_same, sum_rise}
 
 -- ── all orders of all districts ──
 abbrev pub placed_of : Dims → (ℕ → ℕ → List Order) → ℕ
-placed_of D orders = sumUp D.warehouses (λ w. sumUp 10 (λ k. length (orders w k)))
+placed_of D orders = sum_up D.warehouses (λ w. sum_up 10 (λ k. length (orders w k)))
 
 unfoldable pub placed : Dims → Tally → ℕ
 placed D t = placed_of D t.orders
 
-pub placed-le : (D : Dims) (t : Tally) → ((w k : ℕ) → N t w k ≤ D.orders) → placed D t ≤ D.orders * 10 * D.warehouses
+pub placed_le : (D : Dims) (t : Tally) → ((w k : ℕ) → N t w k ≤ D.orders) → placed D t ≤ D.orders * 10 * D.warehouses
 unfolding placed
-placed-le D t h = sum-le D.warehouses (D.orders * 10) (λ w. sumUp 10 (λ k. N t w k)) (λ w r. sum-le 10 D.orders (λ k. N t w k) (λ k s. h w k))
+placed_le D t h = sum_le D.warehouses (D.orders * 10) (λ w. sum_up 10 (λ k. N t w k)) (λ w r. sum_le 10 D.orders (λ k. N t w k) (λ k s. h w k))
 
-pub placed-kept : (D : Dims) (t t' : Tally) → t.orders ≡ t'.orders → placed D t ≡ placed D t'
+pub placed_kept : (D : Dims) (t t' : Tally) → t.orders ≡ t'.orders → placed D t ≡ placed D t'
 unfolding placed
-placed-kept D t t' e = ap (placed_of D) e
+placed_kept D t t' e = ap (placed_of D) e
 
-placed-join : (D : Dims) (t : Tally) (w k : ℕ) (o : Order) → R D.warehouses w → R 10 k → placed D (tallyOrder w k o t) ≡ placed D t + 1
-unfolding placed tallyOrder
-placed-join D t w k o r s =
-    sum-rise D.warehouses w 1 (λ x. sumUp 10 (λ y. N t x y)) (λ x. sumUp 10 (λ y. N (tallyOrder w k o t) x y)) r
-    (λ x ne. sum_same 10 (λ y. N (tallyOrder w k o t) x y) (λ y. N t x y) (λ y u. joined x y false (ap (λ (b : Bool). eqb y k && b) (ne_eqb x w ne) ∙ and_no (eqb y k))))
-    (sum-rise 10 k 1 (λ y. N t w y) (λ y. N (tallyOrder w k o t) w y) s
+placed_join : (D : Dims) (t : Tally) (w k : ℕ) (o : Order) → R D.warehouses w → R 10 k → placed D (tally_order w k o t) ≡ placed D t + 1
+unfolding placed tally_order
+placed_join D t w k o r s =
+    sum_rise D.warehouses w 1 (λ x. sum_up 10 (λ y. N t x y)) (λ x. sum_up 10 (λ y. N (tally_order w k o t) x y)) r
+    (λ x ne. sum_same 10 (λ y. N (tally_order w k o t) x y) (λ y. N t x y) (λ y u. joined x y false (ap (λ (b : Bool). eqb y k && b) (ne_eqb x w ne) ∙ and_no (eqb y k))))
+    (sum_rise 10 k 1 (λ y. N t w y) (λ y. N (tally_order w k o t) w y) s
     (λ y ne. joined w y false (ap (λ (b : Bool). b && eqb w w) (ne_eqb y k ne)))
     (joined w k true (rw (eq-eqb k k refl, eq-eqb w w refl)) ∙ length-append (t.orders w k) (o ∷ [])))
   where
@@ -50,23 +50,23 @@ placed-join D t w k o r s =
 
 -- ── the bounds ──
 -- an order has at most 15 lines of at most 10 at 99,999
-abbrev pub maxSum : ℕ
-maxSum = 14999850
+abbrev pub max_sum : ℕ
+max_sum = 14999850
 
 abbrev pub Low : List Order → Type 0
 Low [] = Unit {0}
-Low (o ∷ os) = (o.sum ≤ maxSum) × Low os
+Low (o ∷ os) = (o.sum ≤ max_sum) × Low os
 
-low-append : (os : List Order) (o : Order) → Low os → o.sum ≤ maxSum → Low (os ++ (o ∷ []))
-low-append [] o h q = (q, tt)
-low-append (x ∷ os) o h q = (h.0, low-append os o h.1 q)
+low_append : (os : List Order) (o : Order) → Low os → o.sum ≤ max_sum → Low (os ++ (o ∷ []))
+low_append [] o h q = (q, tt)
+low_append (x ∷ os) o h q = (h.0, low_append os o h.1 q)
 
-pub sums-le : (c : ℕ) (os : List Order) (m : ℕ) → Low os → sums c (take m os) ≤ maxSum * length os
-sums-le c os zero h = omega arith
-sums-le c [] (suc m) h = omega arith
-sums-le c (o ∷ os) (suc m) h = go (eqb c o.customer) (sums-le c os m h.1)
+pub sums_le : (c : ℕ) (os : List Order) (m : ℕ) → Low os → sums c (take m os) ≤ max_sum * length os
+sums_le c os zero h = omega arith
+sums_le c [] (suc m) h = omega arith
+sums_le c (o ∷ os) (suc m) h = go (eqb c o.customer) (sums_le c os m h.1)
   where
-    go : (x : Bool) → sums c (take m os) ≤ maxSum * length os → cond x o.sum 0 + sums c (take m os) ≤ maxSum * suc (length os)
+    go : (x : Bool) → sums c (take m os) ≤ max_sum * length os → cond x o.sum 0 + sums c (take m os) ≤ max_sum * suc (length os)
     go true ih = omega (arith, h.0)
     go false ih = omega arith
 
@@ -77,13 +77,13 @@ pub record Sane (D : Dims) (t : Tally) : Type 0 where
   pub lots : (w i : ℕ) → t.lots w i ≤ 150 * placed D t
   pub low : (w k : ℕ) → Low (t.orders w k)
 
-added : (x : Bool) (n m k : ℕ) → m ≤ 500000 * k → n ≤ 500000 → addIf x n m ≤ 500000 * (k + 1)
+added : (x : Bool) (n m k : ℕ) → m ≤ 500000 * k → n ≤ 500000 → add_if x n m ≤ 500000 * (k + 1)
 added true n m k h q = omega arith
 added false n m k h q = omega arith
 
-pub sane-pay : (D : Dims) (t : Tally) (q : Payment) (c : ℕ) → Sane D t → q.amount ≤ 500000 → Sane D (tallyPayment q c t)
-unfolding tallyPayment placed
-sane-pay D t q c s h =
+pub sane_pay : (D : Dims) (t : Tally) (q : Payment) (c : ℕ) → Sane D t → q.amount ≤ 500000 → Sane D (tally_payment q c t)
+unfolding tally_payment placed
+sane_pay D t q c s h =
     let p : Paid = record { request = q; customer = c } in
     let more = length-append t.payments (p ∷ []) in
     record {
@@ -94,13 +94,13 @@ sane-pay D t q c s h =
       low = s.low;
     }
 
-pub sane-district : (D : Dims) (t : Tally) (w k : ℕ) → Sane D t → Sane D (tallyDistrict w k t)
-unfolding tallyDistrict placed
+pub sane-district : (D : Dims) (t : Tally) (w k : ℕ) → Sane D t → Sane D (tally_district w k t)
+unfolding tally_district placed
 sane-district D t w k s = record { warehouse = s.warehouse; district = s.district; paid = s.paid; lots = s.lots; low = s.low }
 
-pub sane-districts : (D : Dims) (w n : ℕ) (t : Tally) → Sane D t → Sane D (tallyDistricts w n t)
-sane-districts D w zero t s = s
-sane-districts D w (suc n) t s = sane-district D (tallyDistricts w n t) w (suc n) (sane-districts D w n t s)
+pub sane_districts : (D : Dims) (w n : ℕ) (t : Tally) → Sane D t → Sane D (tally_districts w n t)
+sane_districts D w zero t s = s
+sane_districts D w (suc n) t s = sane-district D (tally_districts w n t) w (suc n) (sane_districts D w n t s)
 
 -- what the lines of an order leave as it was
 pub record ButLots (t t' : Tally) : Type 0 where
@@ -110,51 +110,51 @@ pub record ButLots (t t' : Tally) : Type 0 where
   pub paid : t'.paid ≡ t.paid
   pub payments : t'.payments ≡ t.payments
 
-pub lines-leave : (ls : List Line) (t : Tally) → ButLots t (tallyLines ls t)
-unfolding tallyLine
-lines-leave [] t = record { orders = refl; warehouse = refl; district = refl; paid = refl; payments = refl }
-lines-leave (l ∷ ls) t =
-    let r = lines-leave ls (tallyLine l t) in
+pub lines_leave : (ls : List Line) (t : Tally) → ButLots t (tally_lines ls t)
+unfolding tally_line
+lines_leave [] t = record { orders = refl; warehouse = refl; district = refl; paid = refl; payments = refl }
+lines_leave (l ∷ ls) t =
+    let r = lines_leave ls (tally_line l t) in
     record { orders = r.orders; warehouse = r.warehouse; district = r.district; paid = r.paid; payments = r.payments }
 
 -- each line at most 10 of a kind
-lots-lines : (D : Dims) (ls : List Line) → AllIn (LineStep D) ls → (t : Tally) (w i : ℕ) → (tallyLines ls t).lots w i ≤ t.lots w i + 10 * length ls
-unfolding tallyLine
+lots-lines : (D : Dims) (ls : List Line) → AllIn (LineStep D) ls → (t : Tally) (w i : ℕ) → (tally_lines ls t).lots w i ≤ t.lots w i + 10 * length ls
+unfolding tally_line
 lots-lines D [] r t w i = omega arith
-lots-lines D (l ∷ ls) r t w i = go (is2 l.supply l.item w i) (lots-lines D ls r.1 (tallyLine l t) w i)
+lots-lines D (l ∷ ls) r t w i = go (is2 l.supply l.item w i) (lots-lines D ls r.1 (tally_line l t) w i)
   where
-    go : (x : Bool) → (tallyLines ls (tallyLine l t)).lots w i ≤ addIf x l.quantity (t.lots w i) + 10 * length ls
-        → (tallyLines ls (tallyLine l t)).lots w i ≤ t.lots w i + 10 * suc (length ls)
+    go : (x : Bool) → (tally_lines ls (tally_line l t)).lots w i ≤ add_if x l.quantity (t.lots w i) + 10 * length ls
+        → (tally_lines ls (tally_line l t)).lots w i ≤ t.lots w i + 10 * suc (length ls)
     go true h = omega (arith, r.0.quantity)
     go false h = omega arith
 
-worth-le : (D : Dims) (pr : ℕ → ℕ) (ls : List Line) → AllIn (LineStep D) ls → AllIn (Priced pr) ls → worth pr ls ≤ 999990 * length ls
-worth-le D pr [] r p = omega arith
-worth-le D pr (l ∷ ls) r p = omega (arith, worth-le D pr ls r.1 p.1, mul-le-mul r.0.quantity.hi p.0.high)
+worth_le : (D : Dims) (pr : ℕ → ℕ) (ls : List Line) → AllIn (LineStep D) ls → AllIn (Priced pr) ls → worth pr ls ≤ 999990 * length ls
+worth_le D pr [] r p = omega arith
+worth_le D pr (l ∷ ls) r p = omega (arith, worth_le D pr ls r.1 p.1, mul-le-mul r.0.quantity.hi p.0.high)
 
-pub sane-new : (D : Dims) (t : Tally) (q : NewOrder) (ls : List Line) (pr : ℕ → ℕ) → Sane D t → R D.warehouses q.warehouse → R 10 q.district → length ls ≤ 15
+pub sane_new : (D : Dims) (t : Tally) (q : NewOrder) (ls : List Line) (pr : ℕ → ℕ) → Sane D t → R D.warehouses q.warehouse → R 10 q.district → length ls ≤ 15
     → AllIn (LineStep D) ls → AllIn (Priced pr) ls
-    → Sane D (tallyOrder q.warehouse q.district (record { customer = q.customer; sum = worth pr ls }) (tallyLines ls t))
-unfolding tallyOrder
-sane-new D t q ls pr s r r' hl lr lp = record {
+    → Sane D (tally_order q.warehouse q.district (record { customer = q.customer; sum = worth pr ls }) (tally_lines ls t))
+unfolding tally_order
+sane_new D t q ls pr s r r' hl lr lp = record {
   warehouse = λ w. rw (kept.warehouse, kept.payments) (s.warehouse w);
   district = λ w k. rw (kept.district, kept.payments) (s.district w k);
   paid = λ w k c. rw (kept.paid, kept.payments) (s.paid w k c);
   lots = λ w i.
-      let e = placed-join D (tallyLines ls t) q.warehouse q.district o r r' in
-      omega (arith, same-placed, lots-lines D ls lr t w i, s.lots w i);
+      let e = placed_join D (tally_lines ls t) q.warehouse q.district o r r' in
+      omega (arith, same_placed, lots-lines D ls lr t w i, s.lots w i);
   low = λ w k. lows w k (is2 q.warehouse q.district w k);
 }
   where
-    kept : ButLots t (tallyLines ls t)
-    kept = lines-leave ls t
+    kept : ButLots t (tally_lines ls t)
+    kept = lines_leave ls t
 
-    same-placed : placed D (tallyLines ls t) ≡ placed D t
-    same-placed = placed-kept D (tallyLines ls t) t kept.orders
+    same_placed : placed D (tally_lines ls t) ≡ placed D t
+    same_placed = placed_kept D (tally_lines ls t) t kept.orders
 
     o : Order
     o = record { customer = q.customer; sum = worth pr ls }
 
-    lows : (w k : ℕ) (x : Bool) → Low (cond x ((tallyLines ls t).orders w k ++ (o ∷ [])) ((tallyLines ls t).orders w k))
+    lows : (w k : ℕ) (x : Bool) → Low (cond x ((tally_lines ls t).orders w k ++ (o ∷ [])) ((tally_lines ls t).orders w k))
     lows w k false = rw kept.orders (s.low w k)
-    lows w k true = rw kept.orders (low-append (t.orders w k) o (s.low w k) (omega (arith, worth-le D pr ls lr lp)))
+    lows w k true = rw kept.orders (low_append (t.orders w k) o (s.low w k) (omega (arith, worth_le D pr ls lr lp)))

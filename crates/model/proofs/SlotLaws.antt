@@ -11,12 +11,12 @@ use borrow.Author.Tests.{ne_eqb}
 use Rattle.model.specs.declared.Dims.{Dims}
 use Rattle.model.specs.Numbers.{nat}
 use Rattle.model.specs.Rows.{line}
-use Rattle.model.specs.Delivery.{lineAmounts}
+use Rattle.model.specs.Delivery.{line_amounts}
 use Rattle.model.specs.Tally.{Order}
 use Rattle.model.specs.Claim.{R}
 use Rattle.model.proofs.NumberLaws.{nat-pos}
 use Rattle.model.proofs.OrderRows.{SlotIs, nat_low, nat-high}
-use Rattle.model.proofs.Sums.{sumUp, howMany, sum_same, sum-zero, sum_ones, sum_past}
+use Rattle.model.proofs.Sums.{sum_up, how_many, sum_same, sum-zero, sum_ones, sum_past}
 
 pos-eqb : (n : ℕ) → 1 ≤ n → eqb n 0 ≡ false
 pos-eqb n h = ne_eqb n 0 (λ (e : n ≡ 0). omega arith)
@@ -36,26 +36,26 @@ module _ (D : Dims) (r : ℕ → ℤ) (x : Order) (wait : Bool) (s : SlotIs D r 
   pub slot-customer : nat (r 0) ≡ x.customer
   slot-customer = ap nat s.customer ∙ nat-pos x.customer
 
-  count-high : nat (r 3) ≤ 15
-  count-high = nat-high s.row.count
+  count_high : nat (r 3) ≤ 15
+  count_high = nat-high s.row.count
 
   in_use : (j : ℕ) → R (nat (r 3)) j → not (eqb (nat (line r j 0)) 0) ≡ true
   in_use j q = ap not (pos-eqb (nat (line r j 0)) (nat_low (s.row.lines j q).item))
 
-  not-in-use : (j : ℕ) → nat (r 3) < j → j ≤ 15 → not (eqb (nat (line r j 0)) 0) ≡ false
-  not-in-use j h k = ap not (zero-eqb (line r j 0) (s.unused j h k 0 (omega arith)))
+  not_in_use : (j : ℕ) → nat (r 3) < j → j ≤ 15 → not (eqb (nat (line r j 0)) 0) ≡ false
+  not_in_use j h k = ap not (zero-eqb (line r j 0) (s.unused j h k 0 (omega arith)))
 
   -- the lines whose item is not 0 are as many as the line count
-  pub slot-lines : howMany 15 (λ j. not (eqb (nat (line r j 0)) 0)) ≡ nat (r 3)
+  pub slot-lines : how_many 15 (λ j. not (eqb (nat (line r j 0)) 0)) ≡ nat (r 3)
   slot-lines =
-      sum_past (nat (r 3)) 15 (λ j. cond (not (eqb (nat (line r j 0)) 0)) 1 0) count-high (λ j h k. ap (λ (b : Bool). cond b 1 0) (not-in-use j h k))
+      sum_past (nat (r 3)) 15 (λ j. cond (not (eqb (nat (line r j 0)) 0)) 1 0) count_high (λ j h k. ap (λ (b : Bool). cond b 1 0) (not_in_use j h k))
       ∙ sum_ones (nat (r 3)) (λ j. cond (not (eqb (nat (line r j 0)) 0)) 1 0) (λ j q. ap (λ (b : Bool). cond b 1 0) (in_use j q))
 
   pub slot-used : (j : ℕ) → R 15 j → not (eqb (nat (line r j 0)) 0) ≡ true → R (nat (r 3)) j
   slot-used j q e = go (dec_lt (nat (r 3)) j)
     where
       go : Dec (nat (r 3) < j) → R (nat (r 3)) j
-      go (yes h) = let f = not-in-use j h q.hi in let z : ◌≡◌ {A = ℕ} 0 1 = cc in absurd (omega arith)
+      go (yes h) = let f = not_in_use j h q.hi in let z : ◌≡◌ {A = ℕ} 0 1 = cc in absurd (omega arith)
       go (no h) = record { lo = q.lo; hi = omega arith }
 
 -- by whether it waits
@@ -70,10 +70,10 @@ module _ (D : Dims) (r : ℕ → ℤ) (x : Order) where
 
   -- the amounts of the lines that have a delivery date
   pub slot-amounts : (wait : Bool) → SlotIs D r x wait
-      → sumUp 15 (λ j. cond (not (eqb (nat (line r j 0)) 0) && not (eqb (nat (line r j 4)) 0)) (nat (line r j 3)) 0) ≡ cond wait 0 x.sum
-  unfolding lineAmounts
+      → sum_up 15 (λ j. cond (not (eqb (nat (line r j 0)) 0) && not (eqb (nat (line r j 4)) 0)) (nat (line r j 3)) 0) ≡ cond wait 0 x.sum
+  unfolding line_amounts
   slot-amounts wait s =
-      sum_past (nat (r 3)) 15 f (count-high D r x wait s) (λ j h k. ap (λ (b : Bool). cond (b && not (eqb (nat (line r j 4)) 0)) (nat (line r j 3)) 0) (not-in-use D r x wait s j h k)) ∙ go wait s
+      sum_past (nat (r 3)) 15 f (count_high D r x wait s) (λ j h k. ap (λ (b : Bool). cond (b && not (eqb (nat (line r j 4)) 0)) (nat (line r j 3)) 0) (not_in_use D r x wait s j h k)) ∙ go wait s
     where
       f : ℕ → ℕ
       f j = cond (not (eqb (nat (line r j 0)) 0) && not (eqb (nat (line r j 4)) 0)) (nat (line r j 3)) 0
@@ -83,6 +83,6 @@ module _ (D : Dims) (r : ℕ → ℤ) (x : Order) where
           ap (λ (b : Bool). cond (b && not (eqb (nat (line r j 4)) 0)) (nat (line r j 3)) 0) (in_use D r x wait s j q)
           ∙ ap (λ (b : Bool). cond (not b) (nat (line r j 3)) 0) (slot-dates wait s j q)
 
-      go : (wait : Bool) → SlotIs D r x wait → sumUp (nat (r 3)) f ≡ cond wait 0 x.sum
+      go : (wait : Bool) → SlotIs D r x wait → sum_up (nat (r 3)) f ≡ cond wait 0 x.sum
       go true s = sum-zero (nat (r 3)) f (at true s)
       go false s = sum_same (nat (r 3)) f (λ j. nat (line r j 3)) (at false s) ∙ s.sum

@@ -16,17 +16,17 @@ use Rattle.model.specs.declared.Line.{Line}
 use Rattle.model.specs.declared.NewOrder.{NewOrder}
 use Rattle.model.specs.Layout.{shapes, Addr, at}
 use Rattle.model.specs.Store.{get, row_of, run}
-use Rattle.model.specs.Rows.{districtTax, districtYtd, nextOrder, slot, orderCol, orderRow}
-use Rattle.model.specs.NewOrder.{joinOps, orderNumbers}
-use Rattle.model.specs.Tally.{Tally, Order, Paid, N, M, is2, worth, sums, charged, tallyOrder}
+use Rattle.model.specs.Rows.{district_tax, district_ytd, next_order, slot, order_col, order_row}
+use Rattle.model.specs.NewOrder.{join_ops, order_numbers}
+use Rattle.model.specs.Tally.{Tally, Order, Paid, N, M, is2, worth, sums, charged, tally_order}
 use Rattle.model.specs.Claim.{R}
 use Rattle.model.proofs.Places.{Valid}
 use Rattle.model.proofs.Frame.{seen, get-run, length_run}
-use Rattle.model.proofs.Fields.{v2, v6, slot-in, slot_same}
+use Rattle.model.proofs.Fields.{v2, v6, slot_in, slot_same}
 use Rattle.model.proofs.NewOrderFacts.{join-fine}
 use Rattle.model.proofs.RowFacts.{AllIn}
-use Rattle.model.proofs.OrderRows.{LineStep, Priced, SlotIs, slot-moved, new-slot}
-use Rattle.model.proofs.Parts.{Agrees, CustomerPart, handedTo, ordersBy, hit2, and_no, no_order, bal, head-same, warehouse-same, customer-same, item-same, stock-same, history-same}
+use Rattle.model.proofs.OrderRows.{LineStep, Priced, SlotIs, slot-moved, new_slot}
+use Rattle.model.proofs.Parts.{Agrees, CustomerPart, handed_to, orders_by, hit2, and_no, no_order, bal, head-same, warehouse-same, customer-same, item-same, stock-same, history-same}
 
 -- what an order that joins is known by
 pub record NewStep (D : Dims) (t : Tally) (pr : ℕ → ℕ) (q : NewOrder) (ls : List Line) : Type 0 where
@@ -60,8 +60,8 @@ recharged D b₀ f f' h h' g ps b e e' p = record {
   rate = p.rate;
   bals = λ w k c r s u. p.bals w k c r s u ∙ ap (λ (n : ℕ). bal n (g w k c)) (e w k c);
   ytd = p.ytd;
-  payments-are = p.payments-are;
-  deliveries-are = λ w k c r s u. p.deliveries-are w k c r s u ∙ ap pos (e' w k c);
+  payments_are = p.payments_are;
+  deliveries_are = λ w k c r s u. p.deliveries_are w k c r s u ∙ ap pos (e' w k c);
 }
 
 module _ (D : Dims) (b₀ : List ℤ) (t : Tally) (b : List ℤ) (ag : Agrees D b₀ t b) (pr : ℕ → ℕ) (q : NewOrder) (ls : List Line) (f : NewStep D t pr q ls) where
@@ -73,48 +73,48 @@ module _ (D : Dims) (b₀ : List ℤ) (t : Tally) (b : List ℤ) (ag : Agrees D 
   o = record { customer = q.customer; sum = worth pr ls }
 
   unfoldable pub b' : List ℤ
-  b' = run (shapes D) (joinOps D pr n q ls) b
+  b' = run (shapes D) (join_ops D pr n q ls) b
 
-  n-in : R D.orders n
+  n_in : R D.orders n
   unfolding n
-  n-in = record { lo = omega arith; hi = f.room }
+  n_in = record { lo = omega arith; hi = f.room }
 
-  pub join-look : (a : Addr) → Valid (shapes D) a → get (shapes D) b' a ≡ seen a (joinOps D pr n q ls) (get (shapes D) b a)
+  pub join-look : (a : Addr) → Valid (shapes D) a → get (shapes D) b' a ≡ seen a (join_ops D pr n q ls) (get (shapes D) b a)
   unfolding b'
-  join-look a v = get-run (shapes D) (joinOps D pr n q ls) b a ag.head.len (join-fine D pr n q ls f.w f.k n-in) v
+  join-look a v = get-run (shapes D) (join_ops D pr n q ls) b a ag.head.len (join-fine D pr n q ls f.w f.k n_in) v
 
-  j-in : (w k j : ℕ) → j < N t w k → R D.orders (suc j)
-  j-in w k j h = record { lo = omega arith; hi = omega (arith, ag.order.nle w k) }
+  j_in : (w k j : ℕ) → j < N t w k → R D.orders (suc j)
+  j_in w k j h = record { lo = omega arith; hi = omega (arith, ag.order.nle w k) }
 
   -- a row of another order
   other : (w k j : ℕ) → R D.warehouses w → R 10 k → R D.orders (suc j) → (eqb (suc j) n && is2 q.warehouse q.district w k) ≡ false
-      → (col : ℕ) → col < 81 → get (shapes D) b' (orderCol D w k (suc j) col) ≡ get (shapes D) b (orderCol D w k (suc j) col)
+      → (col : ℕ) → col < 81 → get (shapes D) b' (order_col D w k (suc j) col) ≡ get (shapes D) b (order_col D w k (suc j) col)
   other w k j r s u e col hc =
-      join-look (orderCol D w k (suc j) col) (v6 D r s (slot-in D u) col hc)
-      ∙ ap (λ (x : Bool). cond (x && is2 q.warehouse q.district w k) (get_or (orderNumbers pr q ls) col (pos 0)) (get (shapes D) b (orderCol D w k (suc j) col))) (slot_same D (suc j) n u n-in)
-      ∙ ap (λ (x : Bool). cond x (get_or (orderNumbers pr q ls) col (pos 0)) (get (shapes D) b (orderCol D w k (suc j) col))) e
+      join-look (order_col D w k (suc j) col) (v6 D r s (slot_in D u) col hc)
+      ∙ ap (λ (x : Bool). cond (x && is2 q.warehouse q.district w k) (get_or (order_numbers pr q ls) col (pos 0)) (get (shapes D) b (order_col D w k (suc j) col))) (slot_same D (suc j) n u n_in)
+      ∙ ap (λ (x : Bool). cond x (get_or (order_numbers pr q ls) col (pos 0)) (get (shapes D) b (order_col D w k (suc j) col))) e
 
-  own : (col : ℕ) → col < 81 → get (shapes D) b' (orderCol D q.warehouse q.district n col) ≡ get_or (orderNumbers pr q ls) col (pos 0)
+  own : (col : ℕ) → col < 81 → get (shapes D) b' (order_col D q.warehouse q.district n col) ≡ get_or (order_numbers pr q ls) col (pos 0)
   own col hc =
       let me : (eqb (slot D n) (slot D n) && is2 q.warehouse q.district q.warehouse q.district) ≡ true =
       rw (eq-eqb (slot D n) (slot D n) refl, eq-eqb q.district q.district refl, eq-eqb q.warehouse q.warehouse refl) in
-      join-look (orderCol D q.warehouse q.district n col) (v6 D f.w f.k (slot-in D n-in) col hc)
-      ∙ ap (λ (x : Bool). cond x (get_or (orderNumbers pr q ls) col (pos 0)) (get (shapes D) b (orderCol D q.warehouse q.district n col))) me
+      join-look (order_col D q.warehouse q.district n col) (v6 D f.w f.k (slot_in D n_in) col hc)
+      ∙ ap (λ (x : Bool). cond x (get_or (order_numbers pr q ls) col (pos 0)) (get (shapes D) b (order_col D q.warehouse q.district n col))) me
 
   kept_slot : (w k j : ℕ) → R D.warehouses w → R 10 k → j < N t w k → (eqb (suc j) n && is2 q.warehouse q.district w k) ≡ false
-      → SlotIs D (row_of (shapes D) b' (orderRow D w k (suc j))) (get_or (t.orders w k) j no_order) (leb (M t w k) j)
+      → SlotIs D (row_of (shapes D) b' (order_row D w k (suc j))) (get_or (t.orders w k) j no_order) (leb (M t w k) j)
   kept_slot w k j r s h e =
-      slot-moved D (row_of (shapes D) b (orderRow D w k (suc j))) (row_of (shapes D) b' (orderRow D w k (suc j))) (get_or (t.orders w k) j no_order) (leb (M t w k) j)
-      (λ col hc. other w k j r s (j-in w k j h) e col hc) (ag.order.slots w k j r s h)
+      slot-moved D (row_of (shapes D) b (order_row D w k (suc j))) (row_of (shapes D) b' (order_row D w k (suc j))) (get_or (t.orders w k) j no_order) (leb (M t w k) j)
+      (λ col hc. other w k j r s (j_in w k j h) e col hc) (ag.order.slots w k j r s h)
 
-  joined : SlotIs D (row_of (shapes D) b' (orderRow D q.warehouse q.district n)) o true
+  joined : SlotIs D (row_of (shapes D) b' (order_row D q.warehouse q.district n)) o true
   unfolding o
   joined =
-      slot-moved D (λ k. get_or (orderNumbers pr q ls) k (pos 0)) (row_of (shapes D) b' (orderRow D q.warehouse q.district n)) o true (λ col hc. own col hc)
-      (new-slot D pr q ls f.c f.date f.count f.lines f.priced)
+      slot-moved D (λ k. get_or (order_numbers pr q ls) k (pos 0)) (row_of (shapes D) b' (order_row D q.warehouse q.district n)) o true (λ col hc. own col hc)
+      (new_slot D pr q ls f.c f.date f.count f.lines f.priced)
 
   slots : (w k j : ℕ) → R D.warehouses w → R 10 k → (e : Bool) → is2 q.warehouse q.district w k ≡ e → j < length (cond e (t.orders w k ++ (o ∷ [])) (t.orders w k))
-      → SlotIs D (row_of (shapes D) b' (orderRow D w k (suc j))) (get_or (cond e (t.orders w k ++ (o ∷ [])) (t.orders w k)) j no_order) (leb (M t w k) j)
+      → SlotIs D (row_of (shapes D) b' (order_row D w k (suc j))) (get_or (cond e (t.orders w k ++ (o ∷ [])) (t.orders w k)) j no_order) (leb (M t w k) j)
   unfolding n
   slots w k j r s false e h = kept_slot w k j r s h (ap (λ (x : Bool). eqb (suc j) n && x) e ∙ and_no (eqb (suc j) n))
   slots w k j r s true e h = go (dec_lt j (length (t.orders w k)))
@@ -122,17 +122,17 @@ module _ (D : Dims) (b₀ : List ℤ) (t : Tally) (b : List ℤ) (ag : Agrees D 
       en : N t w k ≡ N t q.warehouse q.district
       en = hit2 (λ w k. N t w k ≡ N t q.warehouse q.district) q.warehouse q.district w k e refl
 
-      go : Dec (j < length (t.orders w k)) → SlotIs D (row_of (shapes D) b' (orderRow D w k (suc j))) (get_or (t.orders w k ++ (o ∷ [])) j no_order) (leb (M t w k) j)
+      go : Dec (j < length (t.orders w k)) → SlotIs D (row_of (shapes D) b' (order_row D w k (suc j))) (get_or (t.orders w k ++ (o ∷ [])) j no_order) (leb (M t w k) j)
       go (yes hj) =
           let ne : eqb (suc j) n ≡ false = ne_eqb (suc j) n (λ (x : suc j ≡ suc (N t q.warehouse q.district)). omega (arith, en)) in
-          subst (λ (y : Order). SlotIs D (row_of (shapes D) b' (orderRow D w k (suc j))) y (leb (M t w k) j)) (sym (get_or-append (t.orders w k) (o ∷ []) no_order j hj))
+          subst (λ (y : Order). SlotIs D (row_of (shapes D) b' (order_row D w k (suc j))) y (leb (M t w k) j)) (sym (get_or-append (t.orders w k) (o ∷ []) no_order j hj))
           (kept_slot w k j r s hj (ap (λ (x : Bool). x && is2 q.warehouse q.district w k) ne))
       go (no hj) =
           let ej : j ≡ length (t.orders w k) = omega (arith, length-append (t.orders w k) (o ∷ [])) in
           let eo : get_or (t.orders w k ++ (o ∷ [])) j no_order ≡ o = ap (λ (i : ℕ). get_or (t.orders w k ++ (o ∷ [])) i no_order) ej ∙ get_or-append_seam (t.orders w k) o [] no_order in
           let en' : suc (N t q.warehouse q.district) ≡ suc j = omega (arith, en) in
-          let s1 : SlotIs D (row_of (shapes D) b' (orderRow D q.warehouse q.district (suc j))) o true = subst (λ (i : ℕ). SlotIs D (row_of (shapes D) b' (orderRow D q.warehouse q.district i)) o true) en' joined in
-          let s2 : SlotIs D (row_of (shapes D) b' (orderRow D w k (suc j))) o true = hit2 (λ w k. SlotIs D (row_of (shapes D) b' (orderRow D w k (suc j))) o true) q.warehouse q.district w k e s1 in
+          let s1 : SlotIs D (row_of (shapes D) b' (order_row D q.warehouse q.district (suc j))) o true = subst (λ (i : ℕ). SlotIs D (row_of (shapes D) b' (order_row D q.warehouse q.district i)) o true) en' joined in
+          let s2 : SlotIs D (row_of (shapes D) b' (order_row D w k (suc j))) o true = hit2 (λ w k. SlotIs D (row_of (shapes D) b' (order_row D w k (suc j))) o true) q.warehouse q.district w k e s1 in
           rw (eo, le-leb (M t w k) j (omega (arith, ag.order.mle w k))) s2
 
   shorter : (w k : ℕ) (e : Bool) → is2 q.warehouse q.district w k ≡ e → length (cond e (t.orders w k ++ (o ∷ [])) (t.orders w k)) ≤ D.orders
@@ -141,23 +141,23 @@ module _ (D : Dims) (b₀ : List ℤ) (t : Tally) (b : List ℤ) (ag : Agrees D 
       let en : N t w k ≡ N t q.warehouse q.district = hit2 (λ w k. N t w k ≡ N t q.warehouse q.district) q.warehouse q.district w k e refl in
       omega (arith, length-append (t.orders w k) (o ∷ []), f.room)
 
-  pub join-agrees : Agrees D b₀ (tallyOrder q.warehouse q.district (record { customer = q.customer; sum = worth pr ls }) t)
-      (run (shapes D) (joinOps D pr (suc (N t q.warehouse q.district)) q ls) b)
-  unfolding tallyOrder o b' n
+  pub join-agrees : Agrees D b₀ (tally_order q.warehouse q.district (record { customer = q.customer; sum = worth pr ls }) t)
+      (run (shapes D) (join_ops D pr (suc (N t q.warehouse q.district)) q ls) b)
+  unfolding tally_order o b' n
   join-agrees = record {
-    head = head-same D b b' t.payments (length_run (shapes D) (joinOps D pr n q ls) b) (λ x y z k v. join-look (at 0 x y z k) v) ag.head;
+    head = head-same D b b' t.payments (length_run (shapes D) (join_ops D pr n q ls) b) (λ x y z k v. join-look (at 0 x y z k) v) ag.head;
     warehouse = warehouse-same D b b' b₀ t.warehouse (λ x y z k v. join-look (at 1 x y z k) v) ag.warehouse;
     district = record {
-      tax = λ w k r s. join-look (districtTax w k) (v2 D r s 0 (omega arith)) ∙ ag.district.tax w k r s;
-      ytd = λ w k r s. join-look (districtYtd w k) (v2 D r s 1 (omega arith)) ∙ ag.district.ytd w k r s;
-      next = λ w k r s. join-look (nextOrder w k) (v2 D r s 2 (omega arith)) ∙ next-is (is2 q.warehouse q.district w k) (t.orders w k) o (ag.district.next w k r s);
+      tax = λ w k r s. join-look (district_tax w k) (v2 D r s 0 (omega arith)) ∙ ag.district.tax w k r s;
+      ytd = λ w k r s. join-look (district_ytd w k) (v2 D r s 1 (omega arith)) ∙ ag.district.ytd w k r s;
+      next = λ w k r s. join-look (next_order w k) (v2 D r s 2 (omega arith)) ∙ next-is (is2 q.warehouse q.district w k) (t.orders w k) o (ag.district.next w k r s);
     };
     customer =
         recharged D b₀ (charged t) (λ w k c. sums c (take (M t w k) (cond (is2 q.warehouse q.district w k) (t.orders w k ++ (o ∷ [])) (t.orders w k))))
-        (handedTo t) (λ w k c. ordersBy c (take (M t w k) (cond (is2 q.warehouse q.district w k) (t.orders w k ++ (o ∷ [])) (t.orders w k)))) t.paid t.payments b'
+        (handed_to t) (λ w k c. orders_by c (take (M t w k) (cond (is2 q.warehouse q.district w k) (t.orders w k ++ (o ∷ [])) (t.orders w k)))) t.paid t.payments b'
         (λ w k c. ap (sums c) (take-is (is2 q.warehouse q.district w k) (t.orders w k) o (M t w k) (ag.order.mle w k)))
-        (λ w k c. ap (ordersBy c) (take-is (is2 q.warehouse q.district w k) (t.orders w k) o (M t w k) (ag.order.mle w k)))
-        (customer-same D b b' b₀ (charged t) (handedTo t) t.paid t.payments (λ x y z k v. join-look (at 3 x y z k) v) ag.customer);
+        (λ w k c. ap (orders_by c) (take-is (is2 q.warehouse q.district w k) (t.orders w k) o (M t w k) (ag.order.mle w k)))
+        (customer-same D b b' b₀ (charged t) (handed_to t) t.paid t.payments (λ x y z k v. join-look (at 3 x y z k) v) ag.customer);
     item = item-same D b b' b₀ (λ x y z k v. join-look (at 4 x y z k) v) ag.item;
     stock = stock-same D b b' t.lots (λ x y z k v. join-look (at 5 x y z k) v) ag.stock;
     order = record {

@@ -11,7 +11,7 @@ use native.Mathlib.Numerals.{add-one}
 use lib.Dec.{leb, ltb, eqb}
 use borrow.Author.Tests.{leb-true, le-leb, ltb-true, eqb-false, not-true, not-false}
 use Rattle.model.specs.declared.Refusal.{Refusal}
-use Rattle.model.specs.Tests.{andAll, every, within, allTo, Check, chk, bare, refusal, fault, staged}
+use Rattle.model.specs.Tests.{and_all, every, within, all_to, Check, chk, bare, refusal, fault, staged}
 use Rattle.model.specs.Claim.{R}
 
 pub and_left : (a b : Bool) → (a && b) ≡ true → a ≡ true
@@ -33,23 +33,23 @@ abbrev pub Each : List Bool → Type 0
 Each [] = Unit {0}
 Each (b ∷ bs) = (b ≡ true) × Each bs
 
-andAll-each : (a : Bool) (bs : List Bool) → andAll a bs ≡ true → (a ≡ true) × Each bs
-andAll-each a [] e = (e, tt)
-andAll-each a (b ∷ bs) e =
-    let r = andAll-each (a && b) bs e in
+and_all-each : (a : Bool) (bs : List Bool) → and_all a bs ≡ true → (a ≡ true) × Each bs
+and_all-each a [] e = (e, tt)
+and_all-each a (b ∷ bs) e =
+    let r = and_all-each (a && b) bs e in
     (and_left a b r.0, (and_right a b r.0, r.1))
 
 pub every-each : (bs : List Bool) → every bs ≡ true → Each bs
 every-each [] e = tt
-every-each (b ∷ bs) e = andAll-each b bs e
+every-each (b ∷ bs) e = and_all-each b bs e
 
-andAll-of : (a : Bool) (bs : List Bool) → a ≡ true → Each bs → andAll a bs ≡ true
-andAll-of a [] p r = p
-andAll-of a (b ∷ bs) p r = andAll-of (a && b) bs (and_both a b p r.0) r.1
+and_all_of : (a : Bool) (bs : List Bool) → a ≡ true → Each bs → and_all a bs ≡ true
+and_all_of a [] p r = p
+and_all_of a (b ∷ bs) p r = and_all_of (a && b) bs (and_both a b p r.0) r.1
 
 pub each-every : (bs : List Bool) → Each bs → every bs ≡ true
 each-every [] r = refl
-each-every (b ∷ bs) r = andAll-of b bs r.0 r.1
+each-every (b ∷ bs) r = and_all_of b bs r.0 r.1
 
 -- ── a number in its range ──
 pub within_in : (x low top : ℕ) → within x low top ≡ true → (low ≤ x) × (x ≤ top)
@@ -58,48 +58,48 @@ within_in x low top e = let h = every-each (leb low x ∷ leb x top ∷ []) e in
 pub in_within : (x low top : ℕ) → low ≤ x → x ≤ top → within x low top ≡ true
 in_within x low top h k = rw (le-leb low x h, le-leb x top k)
 
-pub in-range : (x top : ℕ) → within x 1 top ≡ true → R top x
-in-range x top e = let h = within_in x 1 top e in record { lo = h.0; hi = h.1 }
+pub in_range : (x top : ℕ) → within x 1 top ≡ true → R top x
+in_range x top e = let h = within_in x 1 top e in record { lo = h.0; hi = h.1 }
 
 -- .. as code tests it
-pub passed-range : (x top : ℕ) {t : Bool} → t ≡ within x 1 top → not t ≡ false → R top x
-passed-range x top {t} e s = in-range x top (sym e ∙ not-false t s)
+pub passed_range : (x top : ℕ) {t : Bool} → t ≡ within x 1 top → not t ≡ false → R top x
+passed_range x top {t} e s = in_range x top (sym e ∙ not-false t s)
 
 -- ── a test at each of 1 .. n ──
 module _ (f : ℕ → Bool) where
-  pub all_none : allTo 0 f ≡ true
-  unfolding allTo
+  pub all_none : all_to 0 f ≡ true
+  unfolding all_to
   all_none = refl
 
-  pub all-step : (n : ℕ) → allTo (n + 1) f ≡ (allTo n f && f (n + 1))
-  unfolding allTo
+  pub all-step : (n : ℕ) → all_to (n + 1) f ≡ (all_to n f && f (n + 1))
+  unfolding all_to
   all-step n = rw add-one
 
-  pub all-at : (n : ℕ) → allTo n f ≡ true → (k : ℕ) → R n k → f k ≡ true
-  unfolding allTo
+  pub all-at : (n : ℕ) → all_to n f ≡ true → (k : ℕ) → R n k → f k ≡ true
+  unfolding all_to
   all-at zero e k r = absurd (omega arith)
-  all-at (suc n) e k r = go (ℕ_discrete k (suc n)) (λ q. all-at n (and_left (allTo n f) (f (suc n)) e) k q)
+  all-at (suc n) e k r = go (ℕ_discrete k (suc n)) (λ q. all-at n (and_left (all_to n f) (f (suc n)) e) k q)
     where
       go : Dec (k ≡ suc n) → (R n k → f k ≡ true) → f k ≡ true
-      go (yes q) rec = ap f q ∙ and_right (allTo n f) (f (suc n)) e
+      go (yes q) rec = ap f q ∙ and_right (all_to n f) (f (suc n)) e
       go (no q) rec = rec (record { lo = r.lo; hi = omega arith })
 
-  pub all-to : (n : ℕ) → ((k : ℕ) → R n k → f k ≡ true) → allTo n f ≡ true
-  unfolding allTo
+  pub all-to : (n : ℕ) → ((k : ℕ) → R n k → f k ≡ true) → all_to n f ≡ true
+  unfolding all_to
   all-to zero h = refl
   all-to (suc n) h =
-      and_both (allTo n f) (f (suc n)) (all-to n (λ k r. h k (record { lo = r.lo; hi = omega (arith, r.hi) }))) (h (suc n) (record { lo = omega arith; hi = omega arith }))
+      and_both (all_to n f) (f (suc n)) (all-to n (λ k r. h k (record { lo = r.lo; hi = omega (arith, r.hi) }))) (h (suc n) (record { lo = omega arith; hi = omega arith }))
 
-  pub all-fails : (n k : ℕ) → R n k → f k ≡ false → allTo n f ≡ false
-  all-fails n k r e = go (allTo n f) refl
+  pub all_fails : (n k : ℕ) → R n k → f k ≡ false → all_to n f ≡ false
+  all_fails n k r e = go (all_to n f) refl
     where
-      go : (t : Bool) → allTo n f ≡ t → t ≡ false
+      go : (t : Bool) → all_to n f ≡ t → t ≡ false
       go true h = sym (all-at n h k r) ∙ e
       go false h = refl
 
 -- two tests that agree at each of 1 .. n
-pub all_same : (f g : ℕ → Bool) (n : ℕ) → ((k : ℕ) → R n k → f k ≡ g k) → allTo n f ≡ allTo n g
-unfolding allTo
+pub all_same : (f g : ℕ → Bool) (n : ℕ) → ((k : ℕ) → R n k → f k ≡ g k) → all_to n f ≡ all_to n g
+unfolding all_to
 all_same f g zero h = refl
 all_same f g (suc n) h =
     let p = all_same f g n (λ k r. h k (record { lo = r.lo; hi = omega (arith, r.hi) })) in
@@ -130,9 +130,9 @@ passed (c ∷ cs) n e = go c.ok refl (λ q. passed cs (and_right (ltb 0 c.number
     go false p rec = fails c cs cs p n e
 
 -- two stages: the second is looked at where the first finds nothing
-pub fault-then : (xs ys : List Check) → (fault xs).number ≡ 0 → numbered xs ≡ true → fault (xs ++ ys) ≡ fault ys
-fault-then [] ys e n = refl
-fault-then (c ∷ xs) ys e n = go c.ok refl (λ q. fault-then xs ys q (and_right (ltb 0 c.number) (numbered xs) n))
+pub fault_then : (xs ys : List Check) → (fault xs).number ≡ 0 → numbered xs ≡ true → fault (xs ++ ys) ≡ fault ys
+fault_then [] ys e n = refl
+fault_then (c ∷ xs) ys e n = go c.ok refl (λ q. fault_then xs ys q (and_right (ltb 0 c.number) (numbered xs) n))
   where
     go : (x : Bool) → c.ok ≡ x → ((fault xs).number ≡ 0 → fault (xs ++ ys) ≡ fault ys) → cond c.ok (fault (xs ++ ys)) (refusal c) ≡ fault ys
     go true p rec = rw p (rec (ap (λ (x : Bool). (cond x (fault xs) (refusal c)).number) (sym p) ∙ e))
@@ -157,8 +157,8 @@ fault-parts (c ∷ xs) ys n e = go c.ok refl (λ q. fault-parts xs ys (and_right
 
 -- ── tests in turn, as code makes them: `if !t { return refused(n); }`, t by what its call ensures; f is the first refusal of the tests behind ──
 module _ {t a : Bool} {r : Refusal} (n : ℕ) (f : Refusal) (e : t ≡ a) where
-  pub turned-away : not t ≡ true → r ≡ bare n → r ≡ cond a f (bare n)
-  turned-away s g = g ∙ rw (← e, not-true t s)
+  pub turned_away : not t ≡ true → r ≡ bare n → r ≡ cond a f (bare n)
+  turned_away s g = g ∙ rw (← e, not-true t s)
 
   pub passed_on : not t ≡ false → r ≡ f → r ≡ cond a f (bare n)
   passed_on s g = g ∙ rw (← e, not-false t s)
@@ -167,8 +167,8 @@ module _ {t a : Bool} {r : Refusal} (n : ℕ) (f : Refusal) (e : t ≡ a) where
 -- all three find nothing
 pub record Clear (head : Bool) (asked used : List Check) : Type 0 where
   pub fine : head ≡ true
-  pub asked-none : (fault asked).number ≡ 0
-  pub used-none : (fault used).number ≡ 0
+  pub asked_none : (fault asked).number ≡ 0
+  pub used_none : (fault used).number ≡ 0
 
 module _ (head : Bool) (asked used : List Check) where
   pub staged-head : head ≡ false → bare 2 ≡ staged head asked used
@@ -178,13 +178,13 @@ module _ (head : Bool) (asked used : List Check) where
   staged-asked h f = rw h (sym (fault-first asked used f))
 
   pub staged-used : numbered asked ≡ true → head ≡ true → (fault asked).number ≡ 0 → fault used ≡ staged head asked used
-  staged-used n h f = rw h (sym (fault-then asked used f n))
+  staged-used n h f = rw h (sym (fault_then asked used f n))
 
-  pub staged-clear : numbered asked ≡ true → (staged head asked used).number ≡ 0 → Clear head asked used
-  staged-clear n e =
+  pub staged_clear : numbered asked ≡ true → (staged head asked used).number ≡ 0 → Clear head asked used
+  staged_clear n e =
       let h = fault-parts (chk head 2 ∷ []) (asked ++ used) refl e in
       let r = fault-parts asked used n h.1 in
-      record { fine = (passed (chk head 2 ∷ []) refl h.0).0; asked-none = r.0; used-none = r.1 }
+      record { fine = (passed (chk head 2 ∷ []) refl h.0).0; asked_none = r.0; used_none = r.1 }
 
 -- what keeps a number from being answered: each of its tests holds wherever those before it do
 abbrev pub Need : Bool → Type 0 → Type 0
@@ -195,9 +195,9 @@ abbrev pub PassAt : ℕ → List Check → Type 0
 PassAt n [] = Unit {0}
 PassAt n (c ∷ cs) = Need (eqb c.number n) (c.ok ≡ true) × (c.ok ≡ true → PassAt n cs)
 
-pub not-answered : (n : ℕ) (cs : List Check) → 0 < n → PassAt n cs → (fault cs).number ≢ n
-not-answered n [] h p e = omega arith
-not-answered n (c ∷ cs) h p e = go c.ok (eqb c.number n) refl refl (λ q. not-answered n cs h (p.1 q)) p.0
+pub not_answered : (n : ℕ) (cs : List Check) → 0 < n → PassAt n cs → (fault cs).number ≢ n
+not_answered n [] h p e = omega arith
+not_answered n (c ∷ cs) h p e = go c.ok (eqb c.number n) refl refl (λ q. not_answered n cs h (p.1 q)) p.0
   where
     go : (x y : Bool) → c.ok ≡ x → eqb c.number n ≡ y → (c.ok ≡ true → (fault cs).number ≢ n) → Need y (c.ok ≡ true) → ⊥
     go true y q z rec a = rec q (ap (λ (x : Bool). (cond x (fault cs) (refusal c)).number) (sym q) ∙ e)

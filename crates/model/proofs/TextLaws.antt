@@ -9,9 +9,9 @@ use lib.ListN.{length}
 use native.Mathlib.Omega.{arith}
 use borrow.Author.Tests.{eq-eqb, ne_eqb, eqb-true, not-true}
 use Rattle.model.specs.Tests.{all_of}
-use Rattle.model.specs.Text.{isDigit, is_number, tabbed, joined, onto, partedBy, parted}
+use Rattle.model.specs.Text.{is_digit, is_number, tabbed, joined, onto, parted_by, parted}
 use Rattle.model.proofs.TestLaws.{and_left, and_right, and_both, every-each}
-use Rattle.model.proofs.DecimalLaws.{digit-in}
+use Rattle.model.proofs.DecimalLaws.{digit_in}
 
 pub all_map : {A : Type 0} (f g : A → Bool) → ((x : A) → f x ≡ true → g x ≡ true) → (xs : List A) → all_of f xs ≡ true → all_of g xs ≡ true
 all_map f g h [] e = refl
@@ -27,17 +27,17 @@ other x y h = rw (ne_eqb y x (λ e. omega arith))
 pub number-plain : (x : ℕ) → x < 48 → (f : List ℕ) → is_number f ≡ true → without x f ≡ true
 unfolding is_number
 number-plain x l f e =
-    all_map isDigit (λ y. not (eqb y x)) (λ y h. other x y (omega (arith, (digit-in y h).low))) f (every-each (leb 1 (length f) ∷ leb (length f) 10 ∷ all_of isDigit f ∷ _ ∷ []) e).1.1.0
+    all_map is_digit (λ y. not (eqb y x)) (λ y h. other x y (omega (arith, (digit_in y h).low))) f (every-each (leb 1 (length f) ∷ leb (length f) 10 ∷ all_of is_digit f ∷ _ ∷ []) e).1.1.0
 
 -- ── parted ──
 module _ (x : ℕ) where
-  pub parted-one : (f : List ℕ) → without x f ≡ true → partedBy x f ≡ f ∷ []
-  unfolding partedBy
+  pub parted-one : (f : List ℕ) → without x f ≡ true → parted_by x f ≡ f ∷ []
+  unfolding parted_by
   parted-one [] e = refl
   parted-one (y ∷ f) e = rw (not-true (eqb y x) (and_left (not (eqb y x)) (without x f) e), parted-one f (and_right (not (eqb y x)) (without x f) e))
 
-  pub parted-more : (f s : List ℕ) → without x f ≡ true → partedBy x (f ++ (x ∷ s)) ≡ f ∷ partedBy x s
-  unfolding partedBy
+  pub parted-more : (f s : List ℕ) → without x f ≡ true → parted_by x (f ++ (x ∷ s)) ≡ f ∷ parted_by x s
+  unfolding parted_by
   parted-more [] s e = rw (eq-eqb x x refl)
   parted-more (y ∷ f) s e = rw (not-true (eqb y x) (and_left (not (eqb y x)) (without x f) e), parted-more f s (and_right (not (eqb y x)) (without x f) e))
 
@@ -45,14 +45,14 @@ module _ (x : ℕ) where
   onto-some y [] = omega arith
   onto-some y (f ∷ fs) = omega arith
 
-  pub parted-some : (s : List ℕ) → 1 ≤ length (partedBy x s)
-  unfolding partedBy
+  pub parted-some : (s : List ℕ) → 1 ≤ length (parted_by x s)
+  unfolding parted_by
   parted-some [] = omega arith
   parted-some (y ∷ s) = go (eqb y x)
     where
-      go : (t : Bool) → 1 ≤ length (cond t ([] ∷ partedBy x s) (onto y (partedBy x s)))
+      go : (t : Bool) → 1 ≤ length (cond t ([] ∷ parted_by x s) (onto y (parted_by x s)))
       go true = omega arith
-      go false = onto-some y (partedBy x s)
+      go false = onto-some y (parted_by x s)
 
 -- the fields that were joined by tabs
 pub parted-joined : (f : List ℕ) (fs : List (List ℕ)) → without 9 f ≡ true → all_of (without 9) fs ≡ true → parted (joined (f ∷ fs)) ≡ f ∷ fs
@@ -63,10 +63,10 @@ parted-joined f (g ∷ fs) e h =
     ∙ ap (λ (l : List (List ℕ)). f ∷ l) (parted-joined g fs (and_left (without 9 g) (all_of (without 9) fs) h) (and_right (without 9 g) (all_of (without 9) fs) h))
 
 -- and back
-joined-tab : (p : List (List ℕ)) → 1 ≤ length p → joined ([] ∷ p) ≡ 9 ∷ joined p
+joined_tab : (p : List (List ℕ)) → 1 ≤ length p → joined ([] ∷ p) ≡ 9 ∷ joined p
 unfolding tabbed
-joined-tab [] h = absurd (omega arith)
-joined-tab (f ∷ fs) h = refl
+joined_tab [] h = absurd (omega arith)
+joined_tab (f ∷ fs) h = refl
 
 joined-onto : (y : ℕ) (p : List (List ℕ)) → joined (onto y p) ≡ y ∷ joined p
 unfolding tabbed
@@ -74,16 +74,16 @@ joined-onto y [] = refl
 joined-onto y (f ∷ fs) = refl
 
 pub joined-parted : (s : List ℕ) → joined (parted s) ≡ s
-unfolding partedBy tabbed
+unfolding parted_by tabbed
 joined-parted [] = refl
 joined-parted (y ∷ s) = go (eqb y 9) refl (joined-parted s)
   where
     go : (t : Bool) → eqb y 9 ≡ t → joined (parted s) ≡ s → joined (cond t ([] ∷ parted s) (onto y (parted s))) ≡ y ∷ s
-    go true e ih = joined-tab (parted s) (parted-some 9 s) ∙ ap (λ (l : List ℕ). 9 ∷ l) ih ∙ ap (λ (z : ℕ). z ∷ s) (sym (eqb-true y 9 e))
+    go true e ih = joined_tab (parted s) (parted-some 9 s) ∙ ap (λ (l : List ℕ). 9 ∷ l) ih ∙ ap (λ (z : ℕ). z ∷ s) (sym (eqb-true y 9 e))
     go false e ih = joined-onto y (parted s) ∙ ap (λ (l : List ℕ). y ∷ l) ih
 
 -- ── tabs before fields ──
-pub tabbed-append : (fs gs : List (List ℕ)) → tabbed (fs ++ gs) ≡ tabbed fs ++ tabbed gs
+pub tabbed_append : (fs gs : List (List ℕ)) → tabbed (fs ++ gs) ≡ tabbed fs ++ tabbed gs
 unfolding tabbed
-tabbed-append [] gs = refl
-tabbed-append (f ∷ fs) gs = ap (λ (l : List ℕ). 9 ∷ l) (ap (λ (l : List ℕ). f ++ l) (tabbed-append fs gs) ∙ sym (append_assoc f (tabbed fs) (tabbed gs)))
+tabbed_append [] gs = refl
+tabbed_append (f ∷ fs) gs = ap (λ (l : List ℕ). 9 ∷ l) (ap (λ (l : List ℕ). f ++ l) (tabbed_append fs gs) ∙ sym (append_assoc f (tabbed fs) (tabbed gs)))

@@ -4,14 +4,14 @@ use Rattle.std.specs.Prelude.{Bool, List, [], ◌∷◌, ℕ, leb, eqb, length, 
 use Rattle.model.specs.declared.Dims.{Dims}
 use Rattle.model.specs.Tests.{every, within}
 use Rattle.model.specs.Numbers.{cell}
-use Rattle.model.specs.Layout.{numbers, nameBytes}
+use Rattle.model.specs.Layout.{numbers, name_bytes}
 
 -- the five numbers of the head that fix the size
 unfoldable pub dims : List ℤ → Dims
 dims b = record { warehouses = cell b 0; customers = cell b 1; items = cell b 2; orders = cell b 3; histories = cell b 4 }
 
-unfoldable pub dimsTests : Dims → List Bool
-dimsTests d =
+unfoldable pub dims_tests : Dims → List Bool
+dims_tests d =
     within d.warehouses 1 20
     ∷ within d.customers 1 3000
     ∷ within d.items 1 100000
@@ -20,9 +20,9 @@ dimsTests d =
     ∷ []
 
 -- the history count, and both lengths; n is the number of name bytes
-unfoldable pub sizeTests : Dims → List ℤ → ℕ → List Bool
-sizeTests d b n = leb (cell b 5) d.histories ∷ eqb (length b) (numbers d) ∷ eqb n (nameBytes d) ∷ []
+unfoldable pub size_tests : Dims → List ℤ → ℕ → List Bool
+size_tests d b n = leb (cell b 5) d.histories ∷ eqb (length b) (numbers d) ∷ eqb n (name_bytes d) ∷ []
 
 -- 2: "The slice has under 6 numbers, a head number is out of range, or a length differs from what the head implies."
-unfoldable pub headOk : List ℤ → ℕ → Bool
-headOk b n = every (leb 6 (length b) ∷ every (dimsTests (dims b)) ∷ every (sizeTests (dims b) b n) ∷ [])
+unfoldable pub head_ok : List ℤ → ℕ → Bool
+head_ok b n = every (leb 6 (length b) ∷ every (dims_tests (dims b)) ∷ every (size_tests (dims b) b n) ∷ [])

@@ -14,15 +14,15 @@ abbrev pub sh : ℕ → ℕ → ℕ → ℕ → Shape
 sh x y z k = record { xs = x; ys = y; zs = z; ks = k }
 
 -- how many numbers a district row has
-abbrev pub districtSize : ℕ
-districtSize = 3
+abbrev pub district_size : ℕ
+district_size = 3
 
 -- 0 head, 1 warehouse, 2 district, 3 customer, 4 item, 5 stock, 6 order, 7 history
 abbrev pub shapes : Dims → List Shape
 shapes d =
     sh 1 1 1 6
     ∷ sh d.warehouses 1 1 2
-    ∷ sh d.warehouses 10 1 districtSize
+    ∷ sh d.warehouses 10 1 district_size
     ∷ sh d.warehouses 10 d.customers 6
     ∷ sh d.items 1 1 1
     ∷ sh d.warehouses d.items 1 4
@@ -50,8 +50,8 @@ total (h ∷ t) = size h + total t
 unfoldable pub numbers : Dims → ℕ
 numbers d = total (shapes d)
 
-unfoldable pub nameBytes : Dims → ℕ
-nameBytes d = 32 * (10 * d.warehouses * d.customers)
+unfoldable pub name_bytes : Dims → ℕ
+name_bytes d = 32 * (10 * d.warehouses * d.customers)
 
 -- an address: section, row by up to three coordinates that count from 1 (1 where the section has fewer), column from 0
 pub record Addr : Type 0 where
@@ -72,8 +72,8 @@ unfoldable pub place : List Shape → Addr → ℕ
 place l a = base l a.s + inside (get_or l a.s none) a
 
 -- a slice beside the book with one number per customer, rows by depot, district, number: one section
-abbrev pub perCustomer : Dims → List Shape
-perCustomer d = sh d.warehouses 10 d.customers 1 ∷ []
+abbrev pub per_customer : Dims → List Shape
+per_customer d = sh d.warehouses 10 d.customers 1 ∷ []
 
-abbrev pub ofCustomer : ℕ → ℕ → ℕ → Addr
-ofCustomer w k c = at 0 w k c 0
+abbrev pub of_customer : ℕ → ℕ → ℕ → Addr
+of_customer w k c = at 0 w k c 0

@@ -30,4 +30,4 @@ pub mod Claim
 pub mod NoteClaim
 pub mod QueueClaim
 pub mod TopUpClaim
-pub mod Contracts
+pub mod Promises

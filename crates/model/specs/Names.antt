@@ -8,53 +8,53 @@ use Rattle.model.specs.declared.Selection.{Selection}
 use Rattle.model.specs.declared.Selection.TheVariants.{Number, LastName}
 use Rattle.model.specs.declared.Found.{Found}
 use Rattle.model.specs.declared.Found.TheVariants.{Customer, Nobody}
-use Rattle.model.specs.Tests.{allTo}
+use Rattle.model.specs.Tests.{all_to}
 
 -- "Names are 32 bytes per customer, last then first, 16 each": where those of a customer start
-unfoldable pub namePlace : Dims → ℕ → ℕ → ℕ → ℕ
-namePlace d w k c = 32 * (((w - 1) * 10 + (k - 1)) * d.customers + (c - 1))
+unfoldable pub name_place : Dims → ℕ → ℕ → ℕ → ℕ
+name_place d w k c = 32 * (((w - 1) * 10 + (k - 1)) * d.customers + (c - 1))
 
 abbrev pub name_at : List ℕ → ℕ → List ℕ
 name_at names p = take 16 (drop p names)
 
-unfoldable pub lastName : Dims → List ℕ → ℕ → ℕ → ℕ → List ℕ
-lastName d names w k c = name_at names (namePlace d w k c)
+unfoldable pub last_name : Dims → List ℕ → ℕ → ℕ → ℕ → List ℕ
+last_name d names w k c = name_at names (name_place d w k c)
 
-unfoldable pub firstName : Dims → List ℕ → ℕ → ℕ → ℕ → List ℕ
-firstName d names w k c = name_at names (namePlace d w k c + 16)
+unfoldable pub first_name : Dims → List ℕ → ℕ → ℕ → ℕ → List ℕ
+first_name d names w k c = name_at names (name_place d w k c + 16)
 
 -- "padded with spaces, bytes 32 to 126, the last name's first byte no space": the 32 bytes from p on
-unfoldable pub nameOk : List ℕ → ℕ → Bool
-nameOk names p = allTo 32 (λ j. leb 32 (get_or names (p + (j - 1)) 0) && leb (get_or names (p + (j - 1)) 0) 126) && not (eqb (get_or names p 0) 32)
+unfoldable pub name_ok : List ℕ → ℕ → Bool
+name_ok names p = all_to 32 (λ j. leb 32 (get_or names (p + (j - 1)) 0) && leb (get_or names (p + (j - 1)) 0) 126) && not (eqb (get_or names p 0) 32)
 
 -- "compared after padding to 16 bytes"
 unfoldable pub padded : List ℕ → List ℕ
 padded name = name ++ replicate (16 - length name) 32
 
 -- two names, byte by byte from the left; where one ends first, it is the smaller
-unfoldable pub compareNames : List ℕ → List ℕ → Comparison
-compareNames [] [] = Equal
-compareNames [] (b ∷ y) = Smaller
-compareNames (a ∷ x) [] = Larger
-compareNames (a ∷ x) (b ∷ y) = cond (ltb a b) Smaller (cond (ltb b a) Larger (compareNames x y))
+unfoldable pub compare_names : List ℕ → List ℕ → Comparison
+compare_names [] [] = Equal
+compare_names [] (b ∷ y) = Smaller
+compare_names (a ∷ x) [] = Larger
+compare_names (a ∷ x) (b ∷ y) = cond (ltb a b) Smaller (cond (ltb b a) Larger (compare_names x y))
 
-abbrev pub isEqual : Comparison → Bool
-isEqual Smaller = false
-isEqual Equal = true
-isEqual Larger = false
+abbrev pub is_equal : Comparison → Bool
+is_equal Smaller = false
+is_equal Equal = true
+is_equal Larger = false
 
-abbrev pub smallerOr : Comparison → Bool → Bool
-smallerOr Smaller t = true
-smallerOr Equal t = t
-smallerOr Larger t = false
+abbrev pub smaller_or : Comparison → Bool → Bool
+smaller_or Smaller t = true
+smaller_or Equal t = t
+smaller_or Larger t = false
 
 -- customer c has the last name, which has 16 bytes
 unfoldable pub named : Dims → List ℕ → ℕ → ℕ → List ℕ → ℕ → Bool
-named d names w k name c = isEqual (compareNames (lastName d names w k c) name)
+named d names w k name c = is_equal (compare_names (last_name d names w k c) name)
 
 -- "sorted by first name bytes and then number": customer a comes before customer c
 unfoldable pub before : Dims → List ℕ → ℕ → ℕ → ℕ → ℕ → Bool
-before d names w k a c = smallerOr (compareNames (firstName d names w k a) (firstName d names w k c)) (ltb a c)
+before d names w k a c = smaller_or (compare_names (first_name d names w k a) (first_name d names w k c)) (ltb a c)
 
 -- x put before the first entry that it comes before, or at the end
 abbrev pub insert : (ℕ → ℕ → Bool) → ℕ → List ℕ → List ℕ
@@ -89,29 +89,29 @@ found d names w k name = cond (leb 1 (length name) && leb (length name) 16) (tak
 
 -- "Who is a number or a last name"
 pub data Who : Type 0 where
-  byNumber : ℕ → Who
-  byName : List ℕ → Who
+  by_number : ℕ → Who
+  by_name : List ℕ → Who
 
 -- who as code holds it: the last name is lent beside
-abbrev pub whoOf : Selection → List ℕ → Who
-whoOf (Number c) name = byNumber c
-whoOf LastName name = byName name
+abbrev pub who_of : Selection → List ℕ → Who
+who_of (Number c) name = by_number c
+who_of LastName name = by_name name
 
 -- "finding a customer answers with a number or with nobody"
-unfoldable pub customerOf : Dims → List ℕ → ℕ → ℕ → Who → Found
-customerOf d names w k (byNumber c) = Customer c
-customerOf d names w k (byName name) = found d names w k name
+unfoldable pub customer_of : Dims → List ℕ → ℕ → ℕ → Who → Found
+customer_of d names w k (by_number c) = Customer c
+customer_of d names w k (by_name name) = found d names w k name
 
-abbrev pub isFound : Found → Bool
-isFound (Customer c) = true
-isFound Nobody = false
+abbrev pub is_found : Found → Bool
+is_found (Customer c) = true
+is_found Nobody = false
 
 -- the number found; 0 for nobody
-abbrev pub foundNumber : Found → ℕ
-foundNumber (Customer c) = c
-foundNumber Nobody = 0
+abbrev pub found_number : Found → ℕ
+found_number (Customer c) = c
+found_number Nobody = 0
 
 -- 6, of a customer given by number
-abbrev pub whoTests : Dims → Who → List Bool
-whoTests d (byNumber c) = leb 1 c ∷ leb c d.customers ∷ []
-whoTests d (byName name) = []
+abbrev pub who_tests : Dims → Who → List Bool
+who_tests d (by_number c) = leb 1 c ∷ leb c d.customers ∷ []
+who_tests d (by_name name) = []

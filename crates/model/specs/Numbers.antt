@@ -12,22 +12,22 @@ unfoldable pub cell : List ℤ → ℕ → ℕ
 cell b i = nat (get_or b i (pos 0))
 
 -- "Money is cents. To-date money is 0 to 999,999,999,999"
-abbrev pub maxMoney : ℕ
-maxMoney = 999999999999
+abbrev pub max_money : ℕ
+max_money = 999999999999
 
 -- "a balance is within the same distance of zero on either side" (negsuc n is the number - n - 1)
-unfoldable pub balanceOk : ℤ → Bool
-balanceOk (pos n) = leb n 999999999999
-balanceOk (negsuc n) = leb n 999999999998
+unfoldable pub balance_ok : ℤ → Bool
+balance_ok (pos n) = leb n 999999999999
+balance_ok (negsuc n) = leb n 999999999998
 
 -- "Other counts are 0 to 999,999,999."
-abbrev pub maxCount : ℕ
-maxCount = 999999999
+abbrev pub max_count : ℕ
+max_count = 999999999
 
 -- "Taxes and discounts are ten-thousandths, 0 to 9,999."
-abbrev pub maxRate : ℕ
-maxRate = 9999
+abbrev pub max_rate : ℕ
+max_rate = 9999
 
 -- "A date is seconds, 1 for 1900-01-01 00:00:00 to 6,342,969,600 for 2100-12-31 23:59:59."
-abbrev pub maxDate : ℕ
-maxDate = 6342969600
+abbrev pub max_date : ℕ
+max_date = 6342969600

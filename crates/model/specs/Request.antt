@@ -12,28 +12,28 @@ use Rattle.model.specs.declared.Part.{Part}
 use Rattle.model.specs.declared.Payment.{Payment}
 use Rattle.model.specs.declared.Refusal.{Refusal}
 use Rattle.model.specs.declared.StockLevel.{StockLevel}
-use Rattle.model.specs.Names.{Who, whoOf}
+use Rattle.model.specs.Names.{Who, who_of}
 use Rattle.model.specs.Answer.{Answer}
-use Rattle.model.specs.NewOrder.{newOrderFault, newOrderAnswer, newOrderBook, newOrderLast}
-use Rattle.model.specs.Payment.{paymentFault, paymentAnswer, paymentBook, paymentNotes}
-use Rattle.model.specs.Delivery.{deliveryFault, deliveryAnswer, deliveryOrders, deliveryBook}
-use Rattle.model.specs.OrderStatus.{emptyPart, part_of, statusFault, statusAnswer, statusPart}
-use Rattle.model.specs.StockLevel.{stockLevelFault, stockLevelAnswer}
+use Rattle.model.specs.NewOrder.{new_order_fault, new_order_answer, new_order_book, new_order_last}
+use Rattle.model.specs.Payment.{payment_fault, payment_answer, payment_book, payment_notes}
+use Rattle.model.specs.Delivery.{delivery_fault, delivery_answer, delivery_orders, delivery_book}
+use Rattle.model.specs.OrderStatus.{empty_part, part_of, status_fault, status_answer, status_part}
+use Rattle.model.specs.StockLevel.{stock_level_fault, stock_level_answer}
 
 pub data Request : Type 0 where
-  newOrder : NewOrder → List Line → Request
+  new_order : NewOrder → List Line → Request
   payment : Payment → Who → Request
   delivery : Delivery → Request
-  orderStatus : OrderStatus → Who → Request
-  stockLevel : StockLevel → Request
+  order_status : OrderStatus → Who → Request
+  stock_level : StockLevel → Request
 
 -- a request as code holds it: its form, with lines and last name lent beside
-abbrev pub requestOf : Form → List Line → List ℕ → Request
-requestOf (Form.NewOrder q) lines name = newOrder q lines
-requestOf (Form.Payment q s) lines name = payment q (whoOf s name)
-requestOf (Form.Delivery q) lines name = delivery q
-requestOf (Form.OrderStatus q s) lines name = orderStatus q (whoOf s name)
-requestOf (Form.StockLevel q) lines name = stockLevel q
+abbrev pub request_of : Form → List Line → List ℕ → Request
+request_of (Form.NewOrder q) lines name = new_order q lines
+request_of (Form.Payment q s) lines name = payment q (who_of s name)
+request_of (Form.Delivery q) lines name = delivery q
+request_of (Form.OrderStatus q s) lines name = order_status q (who_of s name)
+request_of (Form.StockLevel q) lines name = stock_level q
 
 -- lines that reach a call as three lists of numbers: line i is entry i of the three, and there are as many as the shortest has entries
 unfoldable pub lines_of : List ℕ → List ℕ → List ℕ → List Line
@@ -47,8 +47,8 @@ abbrev pub line_at : List ℕ → List ℕ → List ℕ → ℕ → Line
 line_at is ss qs i = record { item = get_or is i 0; supply = get_or ss i 0; quantity = get_or qs i 0 }
 
 -- the last name that an array of fixed length holds
-abbrev pub nameIn : LastName → List ℕ
-nameIn n = take n.length n.bytes
+abbrev pub name_in : LastName → List ℕ
+name_in n = take n.length n.bytes
 
 -- what is lent through a list of calls
 pub record Lent : Type 0 where
@@ -67,63 +67,63 @@ abbrev pub lent : List ℤ → List ℕ → List ℤ → List ℕ → List ℤ �
 lent b names last notes topup = record { nums = b; names = names; last = last; notes = notes; topup = topup }
 
 -- the first refusal that fits a request on what is lent; number 0 where it is committed
-unfoldable pub faultOf : Lent → Request → Refusal
-faultOf s (newOrder q lines) = newOrderFault s.nums s.names s.last s.topup q lines
-faultOf s (payment q who) = paymentFault s.nums s.names s.notes q who
-faultOf s (delivery q) = deliveryFault s.nums s.names q
-faultOf s (orderStatus q who) = statusFault s.nums s.names s.last q who
-faultOf s (stockLevel q) = stockLevelFault s.nums s.names q
+unfoldable pub fault_of : Lent → Request → Refusal
+fault_of s (new_order q lines) = new_order_fault s.nums s.names s.last s.topup q lines
+fault_of s (payment q who) = payment_fault s.nums s.names s.notes q who
+fault_of s (delivery q) = delivery_fault s.nums s.names q
+fault_of s (order_status q who) = status_fault s.nums s.names s.last q who
+fault_of s (stock_level q) = stock_level_fault s.nums s.names q
 
 unfoldable pub answer_of : Lent → Request → Answer
-answer_of s (newOrder q lines) = newOrderAnswer s.nums s.names s.last s.topup q lines
-answer_of s (payment q who) = paymentAnswer s.nums s.names s.notes q who
-answer_of s (delivery q) = deliveryAnswer s.nums s.names q
-answer_of s (orderStatus q who) = statusAnswer s.nums s.names s.last q who
-answer_of s (stockLevel q) = stockLevelAnswer s.nums s.names q
+answer_of s (new_order q lines) = new_order_answer s.nums s.names s.last s.topup q lines
+answer_of s (payment q who) = payment_answer s.nums s.names s.notes q who
+answer_of s (delivery q) = delivery_answer s.nums s.names q
+answer_of s (order_status q who) = status_answer s.nums s.names s.last q who
+answer_of s (stock_level q) = stock_level_answer s.nums s.names q
 
 -- beside the answer: Delivery's ten numbers, and where the lines are that a status shows
-unfoldable pub ordersOf : Lent → Request → List ℕ
-ordersOf s (newOrder q lines) = replicate 10 0
-ordersOf s (payment q who) = replicate 10 0
-ordersOf s (delivery q) = deliveryOrders s.nums s.names q
-ordersOf s (orderStatus q who) = replicate 10 0
-ordersOf s (stockLevel q) = replicate 10 0
+unfoldable pub orders_of : Lent → Request → List ℕ
+orders_of s (new_order q lines) = replicate 10 0
+orders_of s (payment q who) = replicate 10 0
+orders_of s (delivery q) = delivery_orders s.nums s.names q
+orders_of s (order_status q who) = replicate 10 0
+orders_of s (stock_level q) = replicate 10 0
 
-unfoldable pub shownPart : Lent → Request → Part
-shownPart s (newOrder q lines) = emptyPart
-shownPart s (payment q who) = emptyPart
-shownPart s (delivery q) = emptyPart
-shownPart s (orderStatus q who) = statusPart s.nums s.names s.last q who
-shownPart s (stockLevel q) = emptyPart
+unfoldable pub shown_part : Lent → Request → Part
+shown_part s (new_order q lines) = empty_part
+shown_part s (payment q who) = empty_part
+shown_part s (delivery q) = empty_part
+shown_part s (order_status q who) = status_part s.nums s.names s.last q who
+shown_part s (stock_level q) = empty_part
 
 -- the lines themselves
-abbrev pub shownOf : Lent → Request → List ℤ
-shownOf s r = part_of (shownPart s r) s.nums
+abbrev pub shown_of : Lent → Request → List ℤ
+shown_of s r = part_of (shown_part s r) s.nums
 
 -- the book's numbers as a call leaves them
-unfoldable pub numsAfter : Lent → Request → List ℤ
-numsAfter s (newOrder q lines) = newOrderBook s.nums s.names s.last s.topup q lines
-numsAfter s (payment q who) = paymentBook s.nums s.names s.notes q who
-numsAfter s (delivery q) = deliveryBook s.nums s.names q
-numsAfter s (orderStatus q who) = s.nums
-numsAfter s (stockLevel q) = s.nums
+unfoldable pub nums_after : Lent → Request → List ℤ
+nums_after s (new_order q lines) = new_order_book s.nums s.names s.last s.topup q lines
+nums_after s (payment q who) = payment_book s.nums s.names s.notes q who
+nums_after s (delivery q) = delivery_book s.nums s.names q
+nums_after s (order_status q who) = s.nums
+nums_after s (stock_level q) = s.nums
 
 -- R-1: "New-Order maintains it and alone writes it"
-unfoldable pub lastAfter : Lent → Request → List ℤ
-lastAfter s (newOrder q lines) = newOrderLast s.nums s.names s.last s.topup q lines
-lastAfter s (payment q who) = s.last
-lastAfter s (delivery q) = s.last
-lastAfter s (orderStatus q who) = s.last
-lastAfter s (stockLevel q) = s.last
+unfoldable pub last_after : Lent → Request → List ℤ
+last_after s (new_order q lines) = new_order_last s.nums s.names s.last s.topup q lines
+last_after s (payment q who) = s.last
+last_after s (delivery q) = s.last
+last_after s (order_status q who) = s.last
+last_after s (stock_level q) = s.last
 
 -- R-4: "one and the same through a list of calls and written by Payment alone"
-unfoldable pub notesAfter : Lent → Request → List ℕ
-notesAfter s (newOrder q lines) = s.notes
-notesAfter s (payment q who) = paymentNotes s.nums s.names s.notes q who
-notesAfter s (delivery q) = s.notes
-notesAfter s (orderStatus q who) = s.notes
-notesAfter s (stockLevel q) = s.notes
+unfoldable pub notes_after : Lent → Request → List ℕ
+notes_after s (new_order q lines) = s.notes
+notes_after s (payment q who) = payment_notes s.nums s.names s.notes q who
+notes_after s (delivery q) = s.notes
+notes_after s (order_status q who) = s.notes
+notes_after s (stock_level q) = s.notes
 
 -- all that is lent as a call leaves it; names and table are only read
 abbrev pub after : Lent → Request → Lent
-after s r = record { nums = numsAfter s r; names = s.names; last = lastAfter s r; notes = notesAfter s r; topup = s.topup }
+after s r = record { nums = nums_after s r; names = s.names; last = last_after s r; notes = notes_after s r; topup = s.topup }

@@ -15,89 +15,89 @@ use Rattle.model.specs.declared.Selection.TheVariants as Selection
 use Rattle.model.specs.declared.WriteOutcome.{WriteOutcome}
 use Rattle.model.specs.declared.WriteOutcome.TheVariants as WriteCase
 use Rattle.model.specs.Tests.{every, all_of, chk, fault}
-use Rattle.model.specs.Text.{is_number, value_of, hasDigits, decimal, parted, lineText, onFront}
-use Rattle.model.specs.Names.{Who, byNumber, byName}
-use Rattle.model.specs.Answer.{Answer, committed, refused, answerBy, leftBy}
-use Rattle.model.specs.Request.{Request, newOrder, payment, delivery, orderStatus, stockLevel}
+use Rattle.model.specs.Text.{is_number, value_of, has_digits, decimal, parted, line_text, on_front}
+use Rattle.model.specs.Names.{Who, by_number, by_name}
+use Rattle.model.specs.Answer.{Answer, committed, refused, answer_by, left_by}
+use Rattle.model.specs.Request.{Request, new_order, payment, delivery, order_status, stock_level}
 
 -- "Who: # and a number, or = and a name of 1 to 16 bytes 32 to 126, no space at either end."
-abbrev pub isPrintable : ℕ → Bool
-isPrintable x = leb 32 x && leb x 126
+abbrev pub is_printable : ℕ → Bool
+is_printable x = leb 32 x && leb x 126
 
-unfoldable pub isName : List ℕ → Bool
-isName f =
+unfoldable pub is_name : List ℕ → Bool
+is_name f =
     every (leb 1 (length f)
     ∷ leb (length f) 16
-    ∷ all_of isPrintable f
+    ∷ all_of is_printable f
     ∷ not (eqb (get_or f 0 0) 32)
     ∷ not (eqb (get_or f (length f - 1) 0) 32)
     ∷ [])
 
-unfoldable pub isWho : List ℕ → Bool
-isWho [] = false
-isWho (x ∷ f) = cond (eqb x 35) (is_number f) (eqb x 61 && isName f)
+unfoldable pub is_who : List ℕ → Bool
+is_who [] = false
+is_who (x ∷ f) = cond (eqb x 35) (is_number f) (eqb x 61 && is_name f)
 
-unfoldable pub whoRead : List ℕ → Who
-whoRead [] = byName []
-whoRead (x ∷ f) = cond (eqb x 35) (byNumber (value_of f)) (byName f)
+unfoldable pub who_read : List ℕ → Who
+who_read [] = by_name []
+who_read (x ∷ f) = cond (eqb x 35) (by_number (value_of f)) (by_name f)
 
-abbrev pub hasWho : Who → Bool
-hasWho (byNumber c) = hasDigits c
-hasWho (byName name) = isName name
+abbrev pub has_who : Who → Bool
+has_who (by_number c) = has_digits c
+has_who (by_name name) = is_name name
 
-abbrev pub whoField : Who → List ℕ
-whoField (byNumber c) = 35 ∷ decimal c
-whoField (byName name) = 61 ∷ name
+abbrev pub who_field : Who → List ℕ
+who_field (by_number c) = 35 ∷ decimal c
+who_field (by_name name) = 61 ∷ name
 
 -- "Forms: N depot district customer date, then 1 to 15 times item depot quantity; P depot district custdepot custdistrict who date amount;
 -- D depot carrier date; S depot district who; L depot district threshold."
-abbrev pub lineSmall : Line → Bool
-lineSmall l = every (hasDigits l.item ∷ hasDigits l.supply ∷ hasDigits l.quantity ∷ [])
+abbrev pub line_small : Line → Bool
+line_small l = every (has_digits l.item ∷ has_digits l.supply ∷ has_digits l.quantity ∷ [])
 
 -- which requests have a form
-unfoldable pub hasForm : Request → Bool
-hasForm (newOrder q lines) =
-    every (hasDigits q.warehouse ∷ hasDigits q.district ∷ hasDigits q.customer ∷ hasDigits q.date
-    ∷ leb 1 (length lines) ∷ leb (length lines) 15 ∷ all_of lineSmall lines ∷ [])
-hasForm (payment q who) =
-    every (hasDigits q.warehouse ∷ hasDigits q.district ∷ hasDigits q.custwarehouse ∷ hasDigits q.custdistrict ∷ hasWho who
-    ∷ hasDigits q.date ∷ hasDigits q.amount ∷ [])
-hasForm (delivery q) = every (hasDigits q.warehouse ∷ hasDigits q.carrier ∷ hasDigits q.date ∷ [])
-hasForm (orderStatus q who) = every (hasDigits q.warehouse ∷ hasDigits q.district ∷ hasWho who ∷ [])
-hasForm (stockLevel q) = every (hasDigits q.warehouse ∷ hasDigits q.district ∷ hasDigits q.threshold ∷ [])
+unfoldable pub has_form : Request → Bool
+has_form (new_order q lines) =
+    every (has_digits q.warehouse ∷ has_digits q.district ∷ has_digits q.customer ∷ has_digits q.date
+    ∷ leb 1 (length lines) ∷ leb (length lines) 15 ∷ all_of line_small lines ∷ [])
+has_form (payment q who) =
+    every (has_digits q.warehouse ∷ has_digits q.district ∷ has_digits q.custwarehouse ∷ has_digits q.custdistrict ∷ has_who who
+    ∷ has_digits q.date ∷ has_digits q.amount ∷ [])
+has_form (delivery q) = every (has_digits q.warehouse ∷ has_digits q.carrier ∷ has_digits q.date ∷ [])
+has_form (order_status q who) = every (has_digits q.warehouse ∷ has_digits q.district ∷ has_who who ∷ [])
+has_form (stock_level q) = every (has_digits q.warehouse ∷ has_digits q.district ∷ has_digits q.threshold ∷ [])
 
 -- the letter, and the fields after it
 abbrev pub letter : Request → ℕ
-letter (newOrder q lines) = 78
+letter (new_order q lines) = 78
 letter (payment q who) = 80
 letter (delivery q) = 68
-letter (orderStatus q who) = 83
-letter (stockLevel q) = 76
+letter (order_status q who) = 83
+letter (stock_level q) = 76
 
-abbrev pub lineFields : List Line → List (List ℕ)
-lineFields [] = []
-lineFields (l ∷ lines) = decimal l.item ∷ decimal l.supply ∷ decimal l.quantity ∷ lineFields lines
+abbrev pub line_fields : List Line → List (List ℕ)
+line_fields [] = []
+line_fields (l ∷ lines) = decimal l.item ∷ decimal l.supply ∷ decimal l.quantity ∷ line_fields lines
 
 unfoldable pub fields_of : Request → List (List ℕ)
-fields_of (newOrder q lines) = decimal q.warehouse ∷ decimal q.district ∷ decimal q.customer ∷ decimal q.date ∷ lineFields lines
+fields_of (new_order q lines) = decimal q.warehouse ∷ decimal q.district ∷ decimal q.customer ∷ decimal q.date ∷ line_fields lines
 fields_of (payment q who) =
-    decimal q.warehouse ∷ decimal q.district ∷ decimal q.custwarehouse ∷ decimal q.custdistrict ∷ whoField who
+    decimal q.warehouse ∷ decimal q.district ∷ decimal q.custwarehouse ∷ decimal q.custdistrict ∷ who_field who
     ∷ decimal q.date ∷ decimal q.amount ∷ []
 fields_of (delivery q) = decimal q.warehouse ∷ decimal q.carrier ∷ decimal q.date ∷ []
-fields_of (orderStatus q who) = decimal q.warehouse ∷ decimal q.district ∷ whoField who ∷ []
-fields_of (stockLevel q) = decimal q.warehouse ∷ decimal q.district ∷ decimal q.threshold ∷ []
+fields_of (order_status q who) = decimal q.warehouse ∷ decimal q.district ∷ who_field who ∷ []
+fields_of (stock_level q) = decimal q.warehouse ∷ decimal q.district ∷ decimal q.threshold ∷ []
 
 -- the line of a request
 unfoldable pub line_of : Request → List ℕ
-line_of r = lineText ((letter r ∷ []) ∷ fields_of r)
+line_of r = line_text ((letter r ∷ []) ∷ fields_of r)
 
 -- what reading a line answers: the request, or 1
 pub data Reading : Type 0 where
   read : Request → Reading
-  noForm : Reading
+  no_form : Reading
 
-abbrev pub readIf : Bool → Request → Reading
-readIf t r = cond t (read r) noForm
+abbrev pub read_if : Bool → Request → Reading
+read_if t r = cond t (read r) no_form
 
 -- field k after the letter, and a number there
 abbrev pub field : List (List ℕ) → ℕ → List ℕ
@@ -112,108 +112,108 @@ lines_read (i ∷ []) = []
 lines_read (i ∷ w ∷ []) = []
 lines_read (i ∷ w ∷ q ∷ fs) = record { item = value_of i; supply = value_of w; quantity = value_of q } ∷ lines_read fs
 
-unfoldable pub readNewOrder : List (List ℕ) → Reading
-readNewOrder fs =
+unfoldable pub read_new_order : List (List ℕ) → Reading
+read_new_order fs =
     let n = (length fs - 4) / 3 in
-    readIf (every (all_of is_number fs ∷ eqb (length fs) (4 + 3 * n) ∷ leb 1 n ∷ leb n 15 ∷ []))
-    (newOrder (record { warehouse = number_in fs 0; district = number_in fs 1; customer = number_in fs 2; date = number_in fs 3 }) (lines_read (drop 4 fs)))
+    read_if (every (all_of is_number fs ∷ eqb (length fs) (4 + 3 * n) ∷ leb 1 n ∷ leb n 15 ∷ []))
+    (new_order (record { warehouse = number_in fs 0; district = number_in fs 1; customer = number_in fs 2; date = number_in fs 3 }) (lines_read (drop 4 fs)))
 
-unfoldable pub readPayment : List (List ℕ) → Reading
-readPayment fs =
-    readIf
-    (every (eqb (length fs) 7 ∷ is_number (field fs 0) ∷ is_number (field fs 1) ∷ is_number (field fs 2) ∷ is_number (field fs 3) ∷ isWho (field fs 4)
+unfoldable pub read_payment : List (List ℕ) → Reading
+read_payment fs =
+    read_if
+    (every (eqb (length fs) 7 ∷ is_number (field fs 0) ∷ is_number (field fs 1) ∷ is_number (field fs 2) ∷ is_number (field fs 3) ∷ is_who (field fs 4)
     ∷ is_number (field fs 5) ∷ is_number (field fs 6) ∷ []))
     (payment (record { warehouse = number_in fs 0; district = number_in fs 1; custwarehouse = number_in fs 2; custdistrict = number_in fs 3; date = number_in fs 5; amount = number_in fs 6 })
-    (whoRead (field fs 4)))
+    (who_read (field fs 4)))
 
-unfoldable pub readDelivery : List (List ℕ) → Reading
-readDelivery fs =
-    readIf (every (eqb (length fs) 3 ∷ all_of is_number fs ∷ []))
+unfoldable pub read_delivery : List (List ℕ) → Reading
+read_delivery fs =
+    read_if (every (eqb (length fs) 3 ∷ all_of is_number fs ∷ []))
     (delivery (record { warehouse = number_in fs 0; carrier = number_in fs 1; date = number_in fs 2 }))
 
-unfoldable pub readOrderStatus : List (List ℕ) → Reading
-readOrderStatus fs =
-    readIf (every (eqb (length fs) 3 ∷ is_number (field fs 0) ∷ is_number (field fs 1) ∷ isWho (field fs 2) ∷ []))
-    (orderStatus (record { warehouse = number_in fs 0; district = number_in fs 1 }) (whoRead (field fs 2)))
+unfoldable pub read_order_status : List (List ℕ) → Reading
+read_order_status fs =
+    read_if (every (eqb (length fs) 3 ∷ is_number (field fs 0) ∷ is_number (field fs 1) ∷ is_who (field fs 2) ∷ []))
+    (order_status (record { warehouse = number_in fs 0; district = number_in fs 1 }) (who_read (field fs 2)))
 
-unfoldable pub readStockLevel : List (List ℕ) → Reading
-readStockLevel fs =
-    readIf (every (eqb (length fs) 3 ∷ all_of is_number fs ∷ []))
-    (stockLevel (record { warehouse = number_in fs 0; district = number_in fs 1; threshold = number_in fs 2 }))
+unfoldable pub read_stock_level : List (List ℕ) → Reading
+read_stock_level fs =
+    read_if (every (eqb (length fs) 3 ∷ all_of is_number fs ∷ []))
+    (stock_level (record { warehouse = number_in fs 0; district = number_in fs 1; threshold = number_in fs 2 }))
 
-unfoldable pub readFields : ℕ → List (List ℕ) → Reading
-readFields x fs =
-    cond (eqb x 78) (readNewOrder fs)
-    (cond (eqb x 80) (readPayment fs)
-    (cond (eqb x 68) (readDelivery fs)
-    (cond (eqb x 83) (readOrderStatus fs)
-    (cond (eqb x 76) (readStockLevel fs) noForm))))
+unfoldable pub read_fields : ℕ → List (List ℕ) → Reading
+read_fields x fs =
+    cond (eqb x 78) (read_new_order fs)
+    (cond (eqb x 80) (read_payment fs)
+    (cond (eqb x 68) (read_delivery fs)
+    (cond (eqb x 83) (read_order_status fs)
+    (cond (eqb x 76) (read_stock_level fs) no_form))))
 
-abbrev pub readParted : List (List ℕ) → Reading
-readParted [] = noForm
-readParted (f ∷ fs) = cond (eqb (length f) 1) (readFields (get_or f 0 0) fs) noForm
+abbrev pub read_parted : List (List ℕ) → Reading
+read_parted [] = no_form
+read_parted (f ∷ fs) = cond (eqb (length f) 1) (read_fields (get_or f 0 0) fs) no_form
 
 -- "an empty line, or a last one without byte 10, has no form"
-unfoldable pub readLine : List ℕ → Reading
-readLine s = cond (leb 1 (length s) && eqb (get_or s (length s - 1) 0) 10) (readParted (parted (take (length s - 1) s))) noForm
+unfoldable pub read_line : List ℕ → Reading
+read_line s = cond (leb 1 (length s) && eqb (get_or s (length s - 1) 0) 10) (read_parted (parted (take (length s - 1) s))) no_form
 
 -- 1: "The text line has none of the forms below; or, in writing, the request has none or the lent buffer is shorter than its line."
 abbrev pub refused1 : Refusal
 refused1 = record { number = 1; detail = 0 }
 
-unfoldable pub writeFault : List ℕ → Request → Refusal
-writeFault buffer r = fault (chk (hasForm r) 1 ∷ chk (leb (length (line_of r)) (length buffer)) 1 ∷ [])
+unfoldable pub write_fault : List ℕ → Request → Refusal
+write_fault buffer r = fault (chk (has_form r) 1 ∷ chk (leb (length (line_of r)) (length buffer)) 1 ∷ [])
 
 -- "writing answers the length and leaves the bytes beyond it"
-unfoldable pub writeAnswer : List ℕ → Request → Answer
-writeAnswer buffer r = answerBy (writeFault buffer r) (pos (length (line_of r)) ∷ [])
+unfoldable pub write_answer : List ℕ → Request → Answer
+write_answer buffer r = answer_by (write_fault buffer r) (pos (length (line_of r)) ∷ [])
 
-unfoldable pub writeBuffer : List ℕ → Request → List ℕ
-writeBuffer buffer r = leftBy (writeFault buffer r) (onFront (line_of r) buffer) buffer
+unfoldable pub write_buffer : List ℕ → Request → List ℕ
+write_buffer buffer r = left_by (write_fault buffer r) (on_front (line_of r) buffer) buffer
 
 -- document 01's number and values for each case of the code's answers
-abbrev pub writeSays : WriteOutcome → Answer
-writeSays (WriteCase.Written n) = committed (pos n ∷ [])
-writeSays (WriteCase.Refused r) = refused r
+abbrev pub write_says : WriteOutcome → Answer
+write_says (WriteCase.Written n) = committed (pos n ∷ [])
+write_says (WriteCase.Refused r) = refused r
 
 -- a request as reading stores it: what is no part of it is 0
-abbrev pub padTo : ℕ → List ℕ → List ℕ
-padTo n xs = xs ++ replicate (n - length xs) 0
+abbrev pub pad_to : ℕ → List ℕ → List ℕ
+pad_to n xs = xs ++ replicate (n - length xs) 0
 
 abbrev pub items_of : List Line → List ℕ
 items_of [] = []
 items_of (l ∷ lines) = l.item ∷ items_of lines
 
-abbrev pub suppliesOf : List Line → List ℕ
-suppliesOf [] = []
-suppliesOf (l ∷ lines) = l.supply ∷ suppliesOf lines
+abbrev pub supplies_of : List Line → List ℕ
+supplies_of [] = []
+supplies_of (l ∷ lines) = l.supply ∷ supplies_of lines
 
-abbrev pub quantitiesOf : List Line → List ℕ
-quantitiesOf [] = []
-quantitiesOf (l ∷ lines) = l.quantity ∷ quantitiesOf lines
+abbrev pub quantities_of : List Line → List ℕ
+quantities_of [] = []
+quantities_of (l ∷ lines) = l.quantity ∷ quantities_of lines
 
-abbrev pub storedLines : List Line → Lines
-storedLines lines =
-    record { count = length lines; items = padTo 15 (items_of lines); supplies = padTo 15 (suppliesOf lines); quantities = padTo 15 (quantitiesOf lines) }
+abbrev pub stored_lines : List Line → Lines
+stored_lines lines =
+    record { count = length lines; items = pad_to 15 (items_of lines); supplies = pad_to 15 (supplies_of lines); quantities = pad_to 15 (quantities_of lines) }
 
-abbrev pub storedName : List ℕ → LastName
-storedName name = record { length = length name; bytes = padTo 16 name }
+abbrev pub stored_name : List ℕ → LastName
+stored_name name = record { length = length name; bytes = pad_to 16 name }
 
 abbrev pub selection : Who → Selection
-selection (byNumber c) = Selection.Number c
-selection (byName name) = Selection.LastName
+selection (by_number c) = Selection.Number c
+selection (by_name name) = Selection.LastName
 
-abbrev pub nameOfWho : Who → List ℕ
-nameOfWho (byNumber c) = []
-nameOfWho (byName name) = name
+abbrev pub name_of_who : Who → List ℕ
+name_of_who (by_number c) = []
+name_of_who (by_name name) = name
 
-abbrev pub storedForm : Form → List Line → List ℕ → ReadAnswer
-storedForm form lines name = record { outcome = ReadCase.Request form; lines = storedLines lines; name = storedName name }
+abbrev pub stored_form : Form → List Line → List ℕ → ReadAnswer
+stored_form form lines name = record { outcome = ReadCase.Request form; lines = stored_lines lines; name = stored_name name }
 
 unfoldable pub stored : Reading → ReadAnswer
-stored (read (newOrder q lines)) = storedForm (Form.NewOrder q) lines []
-stored (read (payment q who)) = storedForm (Form.Payment q (selection who)) [] (nameOfWho who)
-stored (read (delivery q)) = storedForm (Form.Delivery q) [] []
-stored (read (orderStatus q who)) = storedForm (Form.OrderStatus q (selection who)) [] (nameOfWho who)
-stored (read (stockLevel q)) = storedForm (Form.StockLevel q) [] []
-stored noForm = record { outcome = ReadCase.Refused refused1; lines = storedLines []; name = storedName [] }
+stored (read (new_order q lines)) = stored_form (Form.NewOrder q) lines []
+stored (read (payment q who)) = stored_form (Form.Payment q (selection who)) [] (name_of_who who)
+stored (read (delivery q)) = stored_form (Form.Delivery q) [] []
+stored (read (order_status q who)) = stored_form (Form.OrderStatus q (selection who)) [] (name_of_who who)
+stored (read (stock_level q)) = stored_form (Form.StockLevel q) [] []
+stored no_form = record { outcome = ReadCase.Refused refused1; lines = stored_lines []; name = stored_name [] }

@@ -7,8 +7,8 @@ use Rattle.model.specs.Layout.{shapes}
 use Rattle.model.specs.Store.{num}
 use Rattle.model.specs.Rows.{price}
 use Rattle.model.specs.Head.{dims}
-use Rattle.model.specs.Names.{Who, customerOf, foundNumber}
-use Rattle.model.specs.Request.{Request, newOrder, payment, delivery, orderStatus, stockLevel, Lent, faultOf, after}
+use Rattle.model.specs.Names.{Who, customer_of, found_number}
+use Rattle.model.specs.Request.{Request, new_order, payment, delivery, order_status, stock_level, Lent, fault_of, after}
 
 -- "The tally reads the opening book's prices and names ..": this much of it, the names by whom a Payment's who picks among them
 pub record Opened : Type 0 where
@@ -18,7 +18,7 @@ pub record Opened : Type 0 where
 unfoldable pub opened_of : List ℤ → List ℕ → Opened
 opened_of b names = record {
   prices = λ i. num (shapes (dims b)) b (price i);
-  picks = λ w k who. foundNumber (customerOf (dims b) names w k who);
+  picks = λ w k who. found_number (customer_of (dims b) names w k who);
 }
 
 -- ".. the requests, and whether each answer was 0; never the later book."
@@ -72,8 +72,8 @@ is2 w₀ k₀ w k = eqb k k₀ && eqb w w₀
 abbrev pub is3 : ℕ → ℕ → ℕ → ℕ → ℕ → ℕ → Bool
 is3 w₀ k₀ c₀ w k c = eqb c c₀ && (eqb k k₀ && eqb w w₀)
 
-abbrev pub addIf : Bool → ℕ → ℕ → ℕ
-addIf t n m = cond t (m + n) m
+abbrev pub add_if : Bool → ℕ → ℕ → ℕ
+add_if t n m = cond t (m + n) m
 
 -- the sum of quantity × price, at the opening book's prices
 abbrev pub worth : (ℕ → ℕ) → List Line → ℕ
@@ -81,23 +81,23 @@ worth prices [] = 0
 worth prices (l ∷ lines) = l.quantity * prices l.item + worth prices lines
 
 -- "New-Order answered 0: N rises by 1, the order joins the list, and each line's quantity is added for its supplying depot and item."
-unfoldable pub tallyLine : Line → Tally → Tally
-tallyLine l t = record {
+unfoldable pub tally_line : Line → Tally → Tally
+tally_line l t = record {
   orders = t.orders;
   delivered = t.delivered;
-  lots = λ w i. addIf (is2 l.supply l.item w i) l.quantity (t.lots w i);
+  lots = λ w i. add_if (is2 l.supply l.item w i) l.quantity (t.lots w i);
   warehouse = t.warehouse;
   district = t.district;
   paid = t.paid;
   payments = t.payments;
 }
 
-abbrev pub tallyLines : List Line → Tally → Tally
-tallyLines [] t = t
-tallyLines (l ∷ lines) t = tallyLines lines (tallyLine l t)
+abbrev pub tally_lines : List Line → Tally → Tally
+tally_lines [] t = t
+tally_lines (l ∷ lines) t = tally_lines lines (tally_line l t)
 
-unfoldable pub tallyOrder : ℕ → ℕ → Order → Tally → Tally
-tallyOrder w₀ k₀ o t = record {
+unfoldable pub tally_order : ℕ → ℕ → Order → Tally → Tally
+tally_order w₀ k₀ o t = record {
   orders = λ w k. cond (is2 w₀ k₀ w k) (t.orders w k ++ (o ∷ [])) (t.orders w k);
   delivered = t.delivered;
   lots = t.lots;
@@ -108,10 +108,10 @@ tallyOrder w₀ k₀ o t = record {
 }
 
 -- "Delivery answered 0: in each of the depot's ten districts with M < N, M rises by 1."
-unfoldable pub tallyDistrict : ℕ → ℕ → Tally → Tally
-tallyDistrict w₀ k₀ t = record {
+unfoldable pub tally_district : ℕ → ℕ → Tally → Tally
+tally_district w₀ k₀ t = record {
   orders = t.orders;
-  delivered = λ w k. cond (is2 w₀ k₀ w k) (addIf (ltb (M t w k) (N t w k)) 1 (M t w k)) (M t w k);
+  delivered = λ w k. cond (is2 w₀ k₀ w k) (add_if (ltb (M t w k) (N t w k)) 1 (M t w k)) (M t w k);
   lots = t.lots;
   warehouse = t.warehouse;
   district = t.district;
@@ -120,30 +120,30 @@ tallyDistrict w₀ k₀ t = record {
 }
 
 -- districts 1, .., n
-abbrev pub tallyDistricts : ℕ → ℕ → Tally → Tally
-tallyDistricts w zero t = t
-tallyDistricts w (suc n) t = tallyDistrict w (suc n) (tallyDistricts w n t)
+abbrev pub tally_districts : ℕ → ℕ → Tally → Tally
+tally_districts w zero t = t
+tally_districts w (suc n) t = tally_district w (suc n) (tally_districts w n t)
 
 -- "Payment answered 0: its amount is added for paying depot, paying district and customer"
-unfoldable pub tallyPayment : Payment → ℕ → Tally → Tally
-tallyPayment q c₀ t = record {
+unfoldable pub tally_payment : Payment → ℕ → Tally → Tally
+tally_payment q c₀ t = record {
   orders = t.orders;
   delivered = t.delivered;
   lots = t.lots;
-  warehouse = λ w. addIf (eqb w q.warehouse) q.amount (t.warehouse w);
-  district = λ w k. addIf (is2 q.warehouse q.district w k) q.amount (t.district w k);
-  paid = λ w k c. addIf (is3 q.custwarehouse q.custdistrict c₀ w k c) q.amount (t.paid w k c);
+  warehouse = λ w. add_if (eqb w q.warehouse) q.amount (t.warehouse w);
+  district = λ w k. add_if (is2 q.warehouse q.district w k) q.amount (t.district w k);
+  paid = λ w k c. add_if (is3 q.custwarehouse q.custdistrict c₀ w k c) q.amount (t.paid w k c);
   payments = t.payments ++ (record { request = q; customer = c₀ } ∷ []);
 }
 
 -- a call answered 0
 unfoldable pub count : Opened → Request → Tally → Tally
-count o (newOrder q lines) t =
-    tallyOrder q.warehouse q.district (record { customer = q.customer; sum = worth o.prices lines }) (tallyLines lines t)
-count o (payment q who) t = tallyPayment q (o.picks q.custwarehouse q.custdistrict who) t
-count o (delivery q) t = tallyDistricts q.warehouse 10 t
-count o (orderStatus q who) t = t
-count o (stockLevel q) t = t
+count o (new_order q lines) t =
+    tally_order q.warehouse q.district (record { customer = q.customer; sum = worth o.prices lines }) (tally_lines lines t)
+count o (payment q who) t = tally_payment q (o.picks q.custwarehouse q.custdistrict who) t
+count o (delivery q) t = tally_districts q.warehouse 10 t
+count o (order_status q who) t = t
+count o (stock_level q) t = t
 
 -- "All else: no change."
 abbrev pub tally : Opened → List Done → Tally → Tally
@@ -161,14 +161,14 @@ charged t w k c = sums c (take (M t w k) (t.orders w k))
 
 -- "Take any list of the five calls below, refused ones included .. Each call gets both slices as the one before left them"; R-1's slice and R-4's
 -- text are "one and the same through a list of calls"
-abbrev pub afterAll : Lent → List Request → Lent
-afterAll s [] = s
-afterAll s (r ∷ rs) = afterAll (after s r) rs
+abbrev pub after_all : Lent → List Request → Lent
+after_all s [] = s
+after_all s (r ∷ rs) = after_all (after s r) rs
 
-abbrev pub doneAll : Lent → List Request → List Done
-doneAll s [] = []
-doneAll s (r ∷ rs) = record { request = r; number = (faultOf s r).number } ∷ doneAll (after s r) rs
+abbrev pub done_all : Lent → List Request → List Done
+done_all s [] = []
+done_all s (r ∷ rs) = record { request = r; number = (fault_of s r).number } ∷ done_all (after s r) rs
 
 -- the tally of a list of calls from what is lent at its start
 abbrev pub tallied : Lent → List Request → Tally
-tallied s rs = tally (opened_of s.nums s.names) (doneAll s rs) start
+tallied s rs = tally (opened_of s.nums s.names) (done_all s rs) start

@@ -3,23 +3,23 @@
 use Rattle.std.specs.Prelude.{Bool, true, ◌&&◌, cond, List, [], ◌∷◌, ◌++◌, ℕ, zero, suc, leb, eqb}
 use Rattle.model.specs.declared.Refusal.{Refusal}
 
-abbrev pub andAll : Bool → List Bool → Bool
-andAll a [] = a
-andAll a (b ∷ bs) = andAll (a && b) bs
+abbrev pub and_all : Bool → List Bool → Bool
+and_all a [] = a
+and_all a (b ∷ bs) = and_all (a && b) bs
 
 -- all tests of a list hold
 abbrev pub every : List Bool → Bool
 every [] = true
-every (b ∷ bs) = andAll b bs
+every (b ∷ bs) = and_all b bs
 
 -- a number is one of low, .., top
 abbrev pub within : ℕ → ℕ → ℕ → Bool
 within x low top = every (leb low x ∷ leb x top ∷ [])
 
 -- a test holds at each of 1, .., n
-unfoldable pub allTo : ℕ → (ℕ → Bool) → Bool
-allTo zero f = true
-allTo (suc n) f = allTo n f && f (suc n)
+unfoldable pub all_to : ℕ → (ℕ → Bool) → Bool
+all_to zero f = true
+all_to (suc n) f = all_to n f && f (suc n)
 
 -- a test, and what it is refused by where it fails
 pub record Check : Type 0 where
@@ -31,8 +31,8 @@ abbrev pub chk : Bool → ℕ → Check
 chk t n = record { ok = t; number = n; detail = 0 }
 
 -- the place of the first offending line, 0 where there is none, is the test's detail
-abbrev pub chkLine : ℕ → ℕ → Check
-chkLine place n = record { ok = eqb place 0; number = n; detail = place }
+abbrev pub chk_line : ℕ → ℕ → Check
+chk_line place n = record { ok = eqb place 0; number = n; detail = place }
 
 -- a refusal without detail
 abbrev pub bare : ℕ → Refusal

@@ -5,18 +5,18 @@ use Rattle.std.specs.Prelude.{Bool, ◌&&◌, ◌||◌, not, cond, List, [], ◌
 use Rattle.model.specs.Tests.{every, all_of}
 
 -- "Numbers: decimal, at most ten digits, no leading zero but "0" itself."
-abbrev pub isDigit : ℕ → Bool
-isDigit x = leb 48 x && leb x 57
+abbrev pub is_digit : ℕ → Bool
+is_digit x = leb 48 x && leb x 57
 
 unfoldable pub is_number : List ℕ → Bool
-is_number f = every (leb 1 (length f) ∷ leb (length f) 10 ∷ all_of isDigit f ∷ (eqb (length f) 1 || not (eqb (get_or f 0 0) 48)) ∷ [])
+is_number f = every (leb 1 (length f) ∷ leb (length f) 10 ∷ all_of is_digit f ∷ (eqb (length f) 1 || not (eqb (get_or f 0 0) 48)) ∷ [])
 
-abbrev pub valueFrom : ℕ → List ℕ → ℕ
-valueFrom v [] = v
-valueFrom v (x ∷ f) = valueFrom (v * 10 + (x - 48)) f
+abbrev pub value_from : ℕ → List ℕ → ℕ
+value_from v [] = v
+value_from v (x ∷ f) = value_from (v * 10 + (x - 48)) f
 
 unfoldable pub value_of : List ℕ → ℕ
-value_of f = valueFrom 0 f
+value_of f = value_from 0 f
 
 -- a number is written in its decimal digits, of which the largest of 64 bits has twenty; a request's number of more than ten has no form
 abbrev pub digits : ℕ → ℕ → List ℕ
@@ -26,8 +26,8 @@ digits (suc f) n = cond (ltb n 10) ((48 + n) ∷ []) (digits f (n / 10) ++ ((48 
 unfoldable pub decimal : ℕ → List ℕ
 decimal n = digits 19 n
 
-abbrev pub hasDigits : ℕ → Bool
-hasDigits n = ltb n 10000000000
+abbrev pub has_digits : ℕ → Bool
+has_digits n = ltb n 10000000000
 
 -- "a minus before a negative number"
 abbrev pub signed : ℤ → List ℕ
@@ -49,25 +49,25 @@ abbrev pub joined : List (List ℕ) → List ℕ
 joined [] = []
 joined (f ∷ fs) = f ++ tabbed fs
 
-unfoldable pub lineText : List (List ℕ) → List ℕ
-lineText fs = joined fs ++ (10 ∷ [])
+unfoldable pub line_text : List (List ℕ) → List ℕ
+line_text fs = joined fs ++ (10 ∷ [])
 
 -- a line of a letter and numbers
 abbrev pub text_of : ℕ → List ℤ → List ℕ
-text_of x zs = lineText ((x ∷ []) ∷ signeds zs)
+text_of x zs = line_text ((x ∷ []) ∷ signeds zs)
 
 -- a text at the front of a buffer, the rest of it kept
-abbrev pub onFront : List ℕ → List ℕ → List ℕ
-onFront text buffer = text ++ drop (length text) buffer
+abbrev pub on_front : List ℕ → List ℕ → List ℕ
+on_front text buffer = text ++ drop (length text) buffer
 
 -- the parts of a text between bytes x, and the fields of a line without its byte 10
 abbrev pub onto : ℕ → List (List ℕ) → List (List ℕ)
 onto y [] = (y ∷ []) ∷ []
 onto y (f ∷ fs) = (y ∷ f) ∷ fs
 
-unfoldable pub partedBy : ℕ → List ℕ → List (List ℕ)
-partedBy x [] = [] ∷ []
-partedBy x (y ∷ s) = cond (eqb y x) ([] ∷ partedBy x s) (onto y (partedBy x s))
+unfoldable pub parted_by : ℕ → List ℕ → List (List ℕ)
+parted_by x [] = [] ∷ []
+parted_by x (y ∷ s) = cond (eqb y x) ([] ∷ parted_by x s) (onto y (parted_by x s))
 
 abbrev pub parted : List ℕ → List (List ℕ)
-parted s = partedBy 9 s
+parted s = parted_by 9 s

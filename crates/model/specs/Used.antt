@@ -3,51 +3,51 @@
 use Rattle.std.specs.Prelude.{Bool, true, ◌&&◌, cond, List, [], ◌∷◌, ℕ, ◌-◌, leb, ℤ}
 use Rattle.model.specs.declared.Dims.{Dims}
 use Rattle.model.specs.declared.Line.{Line}
-use Rattle.model.specs.Tests.{every, allTo}
+use Rattle.model.specs.Tests.{every, all_to}
 use Rattle.model.specs.Layout.{shapes}
 use Rattle.model.specs.Store.{num, row_of}
-use Rattle.model.specs.Rows.{warehouseRow, warehouseTests, districtRow, districtTests, nextOrder, customerRow, customerTests, price, itemTests, stockRow, stockTests, orderRow, orderOk}
-use Rattle.model.specs.Names.{Who, byNumber, byName, namePlace, nameOk}
+use Rattle.model.specs.Rows.{warehouse_row, warehouse_tests, district_row, district_tests, next_order, customer_row, customer_tests, price, item_tests, stock_row, stock_tests, order_row, order_ok}
+use Rattle.model.specs.Names.{Who, by_number, by_name, name_place, name_ok}
 
-unfoldable pub warehouseUsed : Dims → List ℤ → ℕ → Bool
-warehouseUsed d b w = every (warehouseTests (row_of (shapes d) b (warehouseRow w)))
+unfoldable pub warehouse_used : Dims → List ℤ → ℕ → Bool
+warehouse_used d b w = every (warehouse_tests (row_of (shapes d) b (warehouse_row w)))
 
-unfoldable pub districtUsed : Dims → List ℤ → ℕ → ℕ → Bool
-districtUsed d b w k = every (districtTests d (row_of (shapes d) b (districtRow w k)))
+unfoldable pub district_used : Dims → List ℤ → ℕ → ℕ → Bool
+district_used d b w k = every (district_tests d (row_of (shapes d) b (district_row w k)))
 
-unfoldable pub customerUsed : Dims → List ℤ → ℕ → ℕ → ℕ → Bool
-customerUsed d b w k c = every (customerTests (row_of (shapes d) b (customerRow w k c)))
+unfoldable pub customer_used : Dims → List ℤ → ℕ → ℕ → ℕ → Bool
+customer_used d b w k c = every (customer_tests (row_of (shapes d) b (customer_row w k c)))
 
-unfoldable pub itemUsed : Dims → List ℤ → ℕ → Bool
-itemUsed d b i = every (itemTests (row_of (shapes d) b (price i)))
+unfoldable pub item_used : Dims → List ℤ → ℕ → Bool
+item_used d b i = every (item_tests (row_of (shapes d) b (price i)))
 
-unfoldable pub stockUsed : Dims → List ℤ → ℕ → ℕ → Bool
-stockUsed d b w i = every (stockTests (row_of (shapes d) b (stockRow w i)))
+unfoldable pub stock_used : Dims → List ℤ → ℕ → ℕ → Bool
+stock_used d b w i = every (stock_tests (row_of (shapes d) b (stock_row w i)))
 
-unfoldable pub orderUsed : Dims → List ℤ → ℕ → ℕ → ℕ → Bool
-orderUsed d b w k o = orderOk d (row_of (shapes d) b (orderRow d w k o))
+unfoldable pub order_used : Dims → List ℤ → ℕ → ℕ → ℕ → Bool
+order_used d b w k o = order_ok d (row_of (shapes d) b (order_row d w k o))
 
 -- all customers of a district
-unfoldable pub customersUsed : Dims → List ℤ → ℕ → ℕ → Bool
-customersUsed d b w k = allTo d.customers (customerUsed d b w k)
+unfoldable pub customers_used : Dims → List ℤ → ℕ → ℕ → Bool
+customers_used d b w k = all_to d.customers (customer_used d b w k)
 
 -- the names of all customers of a district
-unfoldable pub namesUsed : Dims → List ℕ → ℕ → ℕ → Bool
-namesUsed d names w k = allTo d.customers (λ c. nameOk names (namePlace d w k c))
+unfoldable pub names_used : Dims → List ℕ → ℕ → ℕ → Bool
+names_used d names w k = all_to d.customers (λ c. name_ok names (name_place d w k c))
 
 -- "orders before next"
-unfoldable pub ordersUsed : Dims → List ℤ → ℕ → ℕ → Bool
-ordersUsed d b w k = allTo (num (shapes d) b (nextOrder w k) - 1) (orderUsed d b w k)
+unfoldable pub orders_used : Dims → List ℤ → ℕ → ℕ → Bool
+orders_used d b w k = all_to (num (shapes d) b (next_order w k) - 1) (order_used d b w k)
 
 -- "the customer, or by name all customers of its district" ("names only in a search by name")
-unfoldable pub whoUsed : Dims → List ℤ → List ℕ → ℕ → ℕ → Who → Bool
-whoUsed d b names w k (byNumber c) = customerUsed d b w k c
-whoUsed d b names w k (byName name) = every (customersUsed d b w k ∷ namesUsed d names w k ∷ [])
+unfoldable pub who_used : Dims → List ℤ → List ℕ → ℕ → ℕ → Who → Bool
+who_used d b names w k (by_number c) = customer_used d b w k c
+who_used d b names w k (by_name name) = every (customers_used d b w k ∷ names_used d names w k ∷ [])
 
 -- the line's item is 1 to I
 abbrev pub listed : Dims → Line → Bool
 listed d l = leb 1 l.item && leb l.item d.items
 
 -- "item and stock of each line with item 1 to I"
-unfoldable pub lineUsed : Dims → List ℤ → Line → Bool
-lineUsed d b l = cond (listed d l) (every (itemUsed d b l.item ∷ stockUsed d b l.supply l.item ∷ [])) true
+unfoldable pub line_used : Dims → List ℤ → Line → Bool
+line_used d b l = cond (listed d l) (every (item_used d b l.item ∷ stock_used d b l.supply l.item ∷ [])) true

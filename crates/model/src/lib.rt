@@ -1,5 +1,6 @@
 // The types that the calls take and answer. Every rule about them is in specs/.
 // Document 01's depot is a warehouse here, as in TPC-C.
+#![tactic(auto)]
 
 // The head numbers that fix the book's size: W, C, I, O and H.
 #[derive(Drop)]

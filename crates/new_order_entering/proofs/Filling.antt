@@ -12,18 +12,18 @@ use lib.Seq.{get_or-append-add}
 use Rattle.model.specs.declared.Line.{Line}
 use Rattle.model.specs.declared.NewOrder.{NewOrder}
 use Rattle.model.specs.Store.{remap}
-use Rattle.model.specs.NewOrder.{amountOf, lineNumbers}
+use Rattle.model.specs.NewOrder.{amount_of, line_numbers}
 use Rattle.model.proofs.Frame.{length-remap}
-use Rattle.model.proofs.Rewrite.{remap-none, remap-more, off, puts, puts-row}
-use Rattle.new_order_entering.specs.Slot.{headNumbers, five, fill}
-use Rattle.model.proofs.Zipped.{noLine}
+use Rattle.model.proofs.Rewrite.{remap-none, remap-more, off, puts, puts_row}
+use Rattle.new_order_entering.specs.Slot.{head_numbers, five, fill}
+use Rattle.model.proofs.Zipped.{no_line}
 
 -- ── m numbers written after k others ──
-pub remap-then : (p k m : ℕ) (f g : ℕ → ℤ → ℤ) (b : List ℤ) → p + (k + m) ≤ length b → ((i : ℕ) (y z : ℤ) → i < m → f (k + i) y ≡ g i z)
+pub remap_then : (p k m : ℕ) (f g : ℕ → ℤ → ℤ) (b : List ℤ) → p + (k + m) ≤ length b → ((i : ℕ) (y z : ℤ) → i < m → f (k + i) y ≡ g i z)
     → remap (p + k) m 0 g (remap p k 0 f b) ≡ remap p (k + m) 0 f b
-remap-then p k zero f g b h e = remap-none (p + k) 0 g (remap p k 0 f b) ∙ ap (λ (n : ℕ). remap p n 0 f b) (sym (add-zero k))
-remap-then p k (suc m) f g b h e =
-    let ih = remap-then p k m f g b (omega arith) (λ i y z l. e i y z (omega arith)) in
+remap_then p k zero f g b h e = remap-none (p + k) 0 g (remap p k 0 f b) ∙ ap (λ (n : ℕ). remap p n 0 f b) (sym (add-zero k))
+remap_then p k (suc m) f g b h e =
+    let ih = remap_then p k m f g b (omega arith) (λ i y z l. e i y z (omega arith)) in
     let c = remap p k 0 f b in
     let o : p + k + m ≡ p + (k + m) = omega arith in
     let one = remap-more (p + k) m 0 g c (rw (length-remap p k 0 f b) (omega arith)) in
@@ -35,7 +35,7 @@ remap-then p k (suc m) f g b h e =
 -- the same numbers, the same row
 pub remap-same : (p m : ℕ) (f g : ℕ → ℤ → ℤ) (b : List ℤ) → p + m ≤ length b → ((i : ℕ) (y z : ℤ) → i < m → f i y ≡ g i z) → remap p m 0 g b ≡ remap p m 0 f b
 remap-same p m f g b h e =
-    let t = remap-then p 0 m f g b (omega arith) (λ i y z l. ap (λ (j : ℕ). f j y) (zero-add i) ∙ e i y z l) in
+    let t = remap_then p 0 m f g b (omega arith) (λ i y z l. ap (λ (j : ℕ). f j y) (zero-add i) ∙ e i y z l) in
     rw (add-zero p, remap-none p 0 f b, zero-add m) at t
 
 -- ── numbers stored before a row, whichever is written first ──
@@ -50,62 +50,62 @@ off_less : (j k p : ℕ) → j + k < p → off j k < p
 off_less j zero p h = omega arith
 off_less j (suc k) p h = h
 
-puts-past : (vs : List ℤ) (j m p n : ℕ) (f : ℕ → ℤ → ℤ) (b : List ℤ) → j + (m + length vs) ≤ p → puts (remap p n 0 f b) j m vs ≡ remap p n 0 f (puts b j m vs)
-puts-past [] j m p n f b h = refl
-puts-past (v ∷ vs) j m p n f b h =
+puts_past : (vs : List ℤ) (j m p n : ℕ) (f : ℕ → ℤ → ℤ) (b : List ℤ) → j + (m + length vs) ≤ p → puts (remap p n 0 f b) j m vs ≡ remap p n 0 f (puts b j m vs)
+puts_past [] j m p n f b h = refl
+puts_past (v ∷ vs) j m p n f b h =
     ap (λ (c : List ℤ). puts c j (suc m) vs) (set_past p n 0 f b (off j m) v (off_less j m p (omega arith)))
-    ∙ puts-past vs j (suc m) p n f (set b (off j m) v) (omega arith)
+    ∙ puts_past vs j (suc m) p n f (set b (off j m) v) (omega arith)
 
 -- ── the numbers of the lines ──
 module _ (prices : ℕ → ℕ) where
-  length-numbers : (ls : List Line) → length (lineNumbers prices ls) ≡ 5 * length ls
+  length-numbers : (ls : List Line) → length (line_numbers prices ls) ≡ 5 * length ls
   length-numbers [] = refl
   length-numbers (l ∷ ls) = let h = length-numbers ls in omega arith
 
   numbers-at : (ls : List Line) (i c : ℕ) (z : Line) → i < length ls → c < 5
-      → get_or (lineNumbers prices ls) (5 * i + c) (pos 0) ≡ get_or (five (get_or ls i z) (amountOf prices (get_or ls i z))) c (pos 0)
+      → get_or (line_numbers prices ls) (5 * i + c) (pos 0) ≡ get_or (five (get_or ls i z) (amount_of prices (get_or ls i z))) c (pos 0)
   numbers-at [] i c z h g = absurd (not-suc-le-zero h)
   numbers-at (l ∷ ls) zero c z h g =
       let e : 5 * 0 + c ≡ c = omega arith in
-      ap (λ (j : ℕ). get_or (lineNumbers prices (l ∷ ls)) j (pos 0)) e ∙ get_or-append (five l (amountOf prices l)) (lineNumbers prices ls) (pos 0) c g
+      ap (λ (j : ℕ). get_or (line_numbers prices (l ∷ ls)) j (pos 0)) e ∙ get_or-append (five l (amount_of prices l)) (line_numbers prices ls) (pos 0) c g
   numbers-at (l ∷ ls) (suc i) c z h g =
       let e : 5 * suc i + c ≡ suc (suc (suc (suc (suc (5 * i + c))))) = omega arith in
-      ap (λ (j : ℕ). get_or (lineNumbers prices (l ∷ ls)) j (pos 0)) e ∙ numbers-at ls i c z (le_of_suc-le-suc h) g
+      ap (λ (j : ℕ). get_or (line_numbers prices (l ∷ ls)) j (pos 0)) e ∙ numbers-at ls i c z (le_of_suc-le-suc h) g
 
   -- one line more
-  pub line-filled : (ls : List Line) (p i : ℕ) (b₀ b : List ℤ) → i < length ls → p + 5 * length ls ≤ length b₀ → b ≡ remap p (5 * i) 0 (fill (lineNumbers prices ls)) b₀
-      → puts b (p + 5 * i) 0 (five (get_or ls i noLine) (amountOf prices (get_or ls i noLine))) ≡ remap p (5 * suc i) 0 (fill (lineNumbers prices ls)) b₀
-  line-filled ls p i b₀ b h room eb =
-      let f = fill (lineNumbers prices ls) in
-      let xs = five (get_or ls i noLine) (amountOf prices (get_or ls i noLine)) in
+  pub line_filled : (ls : List Line) (p i : ℕ) (b₀ b : List ℤ) → i < length ls → p + 5 * length ls ≤ length b₀ → b ≡ remap p (5 * i) 0 (fill (line_numbers prices ls)) b₀
+      → puts b (p + 5 * i) 0 (five (get_or ls i no_line) (amount_of prices (get_or ls i no_line))) ≡ remap p (5 * suc i) 0 (fill (line_numbers prices ls)) b₀
+  line_filled ls p i b₀ b h room eb =
+      let f = fill (line_numbers prices ls) in
+      let xs = five (get_or ls i no_line) (amount_of prices (get_or ls i no_line)) in
       let lb : length b ≡ length b₀ = ap length eb ∙ length-remap p (5 * i) 0 f b₀ in
       let m : 5 * i + 5 ≡ 5 * suc i = omega arith in
-      puts-row xs (p + 5 * i) b (omega arith)
+      puts_row xs (p + 5 * i) b (omega arith)
       ∙ ap (λ (x : List ℤ). remap (p + 5 * i) 5 0 (fill xs) x) eb
-      ∙ remap-then p (5 * i) 5 f (fill xs) b₀ (omega arith) (λ j y z g. numbers-at ls i j noLine h g)
+      ∙ remap_then p (5 * i) 5 f (fill xs) b₀ (omega arith) (λ j y z g. numbers-at ls i j no_line h g)
       ∙ ap (λ (x : ℕ). remap p x 0 f b₀) m
 
   -- the whole slot: the lines, the six numbers before them, zeros
-  pub slot-filled : (q : NewOrder) (ls : List Line) (p n local : ℕ) (b : List ℤ) → n ≡ length ls → n ≤ 15 → p + 81 ≤ length b
-      → remap (p + (6 + 5 * n)) (81 - (6 + 5 * n)) 0 (fill []) (puts (remap (p + 6) (5 * n) 0 (fill (lineNumbers prices ls)) b) p 0 (headNumbers q n local))
-      ≡ remap p 81 0 (fill (headNumbers q n local ++ lineNumbers prices ls)) b
-  slot-filled q ls p n local b e k room =
-      let head = headNumbers q n local in
-      let rest = lineNumbers prices ls in
+  pub slot_filled : (q : NewOrder) (ls : List Line) (p n local : ℕ) (b : List ℤ) → n ≡ length ls → n ≤ 15 → p + 81 ≤ length b
+      → remap (p + (6 + 5 * n)) (81 - (6 + 5 * n)) 0 (fill []) (puts (remap (p + 6) (5 * n) 0 (fill (line_numbers prices ls)) b) p 0 (head_numbers q n local))
+      ≡ remap p 81 0 (fill (head_numbers q n local ++ line_numbers prices ls)) b
+  slot_filled q ls p n local b e k room =
+      let head = head_numbers q n local in
+      let rest = line_numbers prices ls in
       let f = fill (head ++ rest) in
       let u = 6 + 5 * n in
       let s1 : puts b p 0 head ≡ remap p 6 0 f b =
-      puts-row head p b (omega arith) ∙ remap-same p 6 f (fill head) b (omega arith) (λ i y z g. get_or-append head rest (pos 0) i g) in
+      puts_row head p b (omega arith) ∙ remap-same p 6 f (fill head) b (omega arith) (λ i y z g. get_or-append head rest (pos 0) i g) in
       let s2 : puts (remap (p + 6) (5 * n) 0 (fill rest) b) p 0 head ≡ remap p u 0 f b =
-      puts-past head p 0 (p + 6) (5 * n) (fill rest) b (omega arith)
+      puts_past head p 0 (p + 6) (5 * n) (fill rest) b (omega arith)
       ∙ ap (λ (x : List ℤ). remap (p + 6) (5 * n) 0 (fill rest) x) s1
-      ∙ remap-then p 6 (5 * n) f (fill rest) b (omega arith) (λ i y z g. get_or-append-add head rest i (pos 0)) in
+      ∙ remap_then p 6 (5 * n) f (fill rest) b (omega arith) (λ i y z g. get_or-append-add head rest i (pos 0)) in
       let long : length (head ++ rest) ≤ u = omega (arith, length-append head rest, length-numbers ls) in
-      let t = remap-then p u (81 - u) f (fill []) b (omega arith) (λ i y z g. get_or-eq_default (head ++ rest) (pos 0) {n = u + i} (omega arith)) in
+      let t = remap_then p u (81 - u) f (fill []) b (omega arith) (λ i y z g. get_or-eq_default (head ++ rest) (pos 0) {n = u + i} (omega arith)) in
       let m : u + (81 - u) ≡ 81 = omega arith in
       ap (λ (x : List ℤ). remap (p + u) (81 - u) 0 (fill []) x) s2 ∙ t ∙ ap (λ (x : ℕ). remap p x 0 f b) m
 
 -- one 0 more
-pub zero-filled : (p m i : ℕ) (b₀ b : List ℤ) → i < m → p + m ≤ length b₀ → b ≡ remap p i 0 (fill []) b₀ → {c : List ℤ} → c ≡ set b (p + i) (pos 0) → c ≡ remap p (i + 1) 0 (fill []) b₀
-zero-filled p m i b₀ b h room eb s =
+pub zero_filled : (p m i : ℕ) (b₀ b : List ℤ) → i < m → p + m ≤ length b₀ → b ≡ remap p i 0 (fill []) b₀ → {c : List ℤ} → c ≡ set b (p + i) (pos 0) → c ≡ remap p (i + 1) 0 (fill []) b₀
+zero_filled p m i b₀ b h room eb s =
     s ∙ ap (λ (x : List ℤ). set x (p + i) (pos 0)) eb ∙ sym (remap-more p i 0 (fill []) b₀ (omega arith)) ∙ ap (λ (x : ℕ). remap p x 0 (fill []) b₀) (sym (add-one i))

@@ -8,8 +8,8 @@ use native.Mathlib.Omega.{arith}
 use lib.ListN.{length, take, drop, length-drop, drop_of_length-le}
 use lib.Seq.{take_all, length-take-le, length-sets, take-append-add, drop-drop}
 use Rattle.model.specs.declared.Dims.{Dims}
-use Rattle.model.specs.Layout.{place, perCustomer, ofCustomer}
-use Rattle.model.specs.Note.{notePlace, textAt, moved, replaced}
+use Rattle.model.specs.Layout.{place, per_customer, of_customer}
+use Rattle.model.specs.Note.{note_place, text_at, moved, replaced}
 use Rattle.text.specs.Writing.{Wrote}
 use Rattle.text.proofs.Putting.{front}
 
@@ -41,8 +41,8 @@ module _ (t m z old back note : List ℕ) (n : ℕ) (long : length t ≡ 500) (f
       (sym (take-append-add note t (500 - n - 0)) ∙ ap (λ (i : ℕ). take i (note ++ t)) five)
 
 -- a customer's m bytes from place 500 · p on
-module _ (d : Dims) (notes text note : List ℕ) (w k c : ℕ) {p : ℕ} (e : p ≡ place (perCustomer d) (ofCustomer w k c)) where
-  pub part-replaced : (m : ℕ) → m ≡ 500 → text ≡ moved note (take m (drop (500 * p) notes))
-      → take (500 * p) notes ++ (text ++ drop m (drop (500 * p) notes)) ≡ replaced (notePlace d w k c) (moved note (textAt d notes w k c)) notes
-  unfolding replaced notePlace textAt
-  part-replaced m f g = rw (g, f, drop-drop 500 (500 * p) notes, e)
+module _ (d : Dims) (notes text note : List ℕ) (w k c : ℕ) {p : ℕ} (e : p ≡ place (per_customer d) (of_customer w k c)) where
+  pub part_replaced : (m : ℕ) → m ≡ 500 → text ≡ moved note (take m (drop (500 * p) notes))
+      → take (500 * p) notes ++ (text ++ drop m (drop (500 * p) notes)) ≡ replaced (note_place d w k c) (moved note (text_at d notes w k c)) notes
+  unfolding replaced note_place text_at
+  part_replaced m f g = rw (g, f, drop-drop 500 (500 * p) notes, e)

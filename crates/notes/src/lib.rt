@@ -1,7 +1,9 @@
 // The customers' texts lent beside the book: refusal 14, and a payment's note put at the left of its customer's text.
+#![tactic(auto)]
+
 ghost use Rattle.std.specs.Prelude.{◌≡◌, [], ◌∷◌, ◌++◌, ◌+◌, ◌%◌, ◌≤◌, length};
 ghost use Rattle.model.specs.Text.{decimal};
-ghost use Rattle.model.specs.Note.{notePlace, textAt, noteBytes, notesLong, note_of, moved, replaced};
+ghost use Rattle.model.specs.Note.{note_place, text_at, note_bytes, notes_long, note_of, moved, replaced};
 ghost use Rattle.model.specs.Claim.{R};
 ghost use Rattle.model.proofs.Fields.{Dimensioned};
 ghost use Rattle.text.specs.Writing.{Wrote};
@@ -11,7 +13,7 @@ use model::{Dims, Payment};
 // 14: the text is as long as it has to be.
 pub fn long_ok(notes: &[u8], d: Dims) -> bool
     requires { Dimensioned d }
-    ensures { result ≡ notesLong d notes.now }
+    ensures { result ≡ notes_long d notes.now }
 {
     let long = notes.len() as u64;
     let customers = layout::all_customers(d);
@@ -73,9 +75,9 @@ fn put_note(text: &mut [u8], q: Payment, c: u64)
 
 // A payment by customer c noted in its text.
 pub fn note(notes: &mut [u8], d: Dims, q: Payment, c: u64)
-    requires { Dimensioned d × (R d.warehouses q.custwarehouse × (R 10 q.custdistrict × (R d.customers c × (length notes.old ≡ noteBytes d)))) }
-    ensures { notes.new ≡ replaced (notePlace d q.custwarehouse q.custdistrict c)
-        (moved (note_of q c) (textAt d notes.old q.custwarehouse q.custdistrict c)) notes.old }
+    requires { Dimensioned d × (R d.warehouses q.custwarehouse × (R 10 q.custdistrict × (R d.customers c × (length notes.old ≡ note_bytes d)))) }
+    ensures { notes.new ≡ replaced (note_place d q.custwarehouse q.custdistrict c)
+        (moved (note_of q c) (text_at d notes.old q.custwarehouse q.custdistrict c)) notes.old }
 {
     let place = layout::of_customer(d, q.custwarehouse, q.custdistrict, c);
     let from = (500 * place) as usize;

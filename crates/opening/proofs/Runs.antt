@@ -9,39 +9,39 @@ use Rattle.model.specs.declared.Dims.{Dims}
 use Rattle.model.specs.Tests.{every}
 use Rattle.model.specs.Layout.{at, place, shapes}
 use Rattle.model.specs.Store.{from, row_of}
-use Rattle.model.specs.Rows.{warehouseRow, districtRow, customerRow, price, itemTests, stockRow}
-use Rattle.model.specs.Used.{itemUsed}
-use Rattle.model.specs.Opening.{newWarehouse, newDistrict, newCustomer, newStock}
+use Rattle.model.specs.Rows.{warehouse_row, district_row, customer_row, price, item_tests, stock_row}
+use Rattle.model.specs.Used.{item_used}
+use Rattle.model.specs.Opening.{new_warehouse, new_district, new_customer, new_stock}
 use Rattle.model.specs.Claim.{R}
 use Rattle.model.proofs.Fields.{row_read}
 use Rattle.rows.proofs.Runs.{customer-run, item-run, stock-run}
-use Rattle.rows.proofs.RowTests.{item-test}
-use Rattle.opening.specs.New.{customerNew, stockNew}
+use Rattle.rows.proofs.RowTests.{item_test}
+use Rattle.opening.specs.New.{customer_new, stock_new}
 
 row_is : (d : Dims) (b : List ℤ) (s x y z : ℕ) {p : ℕ} → p ≡ place (shapes d) (at s x y z 0) → from b p ≡ row_of (shapes d) b (at s x y z 0)
 row_is d b s x y z e = ap (from b) e ∙ row_read (shapes d) b s x y z
 
 module _ (d : Dims) (b : List ℤ) {p : ℕ} {t : Bool} where
-  pub warehouse-row : (w : ℕ) → p ≡ place (shapes d) (warehouseRow w) → t ≡ every (newWarehouse (from b p)) → t ≡ every (newWarehouse (row_of (shapes d) b (warehouseRow w)))
-  warehouse-row w e h = h ∙ ap (λ (r : ℕ → ℤ). every (newWarehouse r)) (row_is d b 1 w 1 1 e)
+  pub warehouse-row : (w : ℕ) → p ≡ place (shapes d) (warehouse_row w) → t ≡ every (new_warehouse (from b p)) → t ≡ every (new_warehouse (row_of (shapes d) b (warehouse_row w)))
+  warehouse-row w e h = h ∙ ap (λ (r : ℕ → ℤ). every (new_warehouse r)) (row_is d b 1 w 1 1 e)
 
-  pub district-row : (w k : ℕ) → p ≡ place (shapes d) (districtRow w k) → t ≡ every (newDistrict (from b p)) → t ≡ every (newDistrict (row_of (shapes d) b (districtRow w k)))
-  district-row w k e h = h ∙ ap (λ (r : ℕ → ℤ). every (newDistrict r)) (row_is d b 2 w k 1 e)
+  pub district-row : (w k : ℕ) → p ≡ place (shapes d) (district_row w k) → t ≡ every (new_district (from b p)) → t ≡ every (new_district (row_of (shapes d) b (district_row w k)))
+  district-row w k e h = h ∙ ap (λ (r : ℕ → ℤ). every (new_district r)) (row_is d b 2 w k 1 e)
 
   -- row i, from 0, after a first one
-  pub customer-new : (w k i : ℕ) → R d.warehouses w → R 10 k → i < d.customers → p ≡ place (shapes d) (customerRow w k 1)
-      → t ≡ every (newCustomer (from b (p + 6 * i))) → t ≡ customerNew d b w k (i + 1)
-  customer-new w k i r s h e f =
+  pub customer_new_lem : (w k i : ℕ) → R d.warehouses w → R 10 k → i < d.customers → p ≡ place (shapes d) (customer_row w k 1)
+      → t ≡ every (new_customer (from b (p + 6 * i))) → t ≡ customer_new d b w k (i + 1)
+  customer_new_lem w k i r s h e f =
       f
-      ∙ ap (λ (j : ℕ). every (newCustomer (from b j))) (ap (λ (j : ℕ). j + 6 * i) e ∙ (customer-run d w k i r s h).0)
-      ∙ ap (λ (g : ℕ → ℤ). every (newCustomer g)) (row_read (shapes d) b 3 w k (i + 1))
+      ∙ ap (λ (j : ℕ). every (new_customer (from b j))) (ap (λ (j : ℕ). j + 6 * i) e ∙ (customer-run d w k i r s h).0)
+      ∙ ap (λ (g : ℕ → ℤ). every (new_customer g)) (row_read (shapes d) b 3 w k (i + 1))
 
-  pub stock-new : (w i : ℕ) → R d.warehouses w → i < d.items → p ≡ place (shapes d) (stockRow w 1)
-      → t ≡ every (newStock (from b (p + 4 * i))) → t ≡ stockNew d b w (i + 1)
-  stock-new w i r h e f =
+  pub stock_new_lem : (w i : ℕ) → R d.warehouses w → i < d.items → p ≡ place (shapes d) (stock_row w 1)
+      → t ≡ every (new_stock (from b (p + 4 * i))) → t ≡ stock_new d b w (i + 1)
+  stock_new_lem w i r h e f =
       f
-      ∙ ap (λ (j : ℕ). every (newStock (from b j))) (ap (λ (j : ℕ). j + 4 * i) e ∙ (stock-run d w i r h).0)
-      ∙ ap (λ (g : ℕ → ℤ). every (newStock g)) (row_read (shapes d) b 5 w (i + 1) 1)
+      ∙ ap (λ (j : ℕ). every (new_stock (from b j))) (ap (λ (j : ℕ). j + 4 * i) e ∙ (stock-run d w i r h).0)
+      ∙ ap (λ (g : ℕ → ℤ). every (new_stock g)) (row_read (shapes d) b 5 w (i + 1) 1)
 
-  pub item-used : (i : ℕ) → i < d.items → p ≡ place (shapes d) (price 1) → t ≡ every (itemTests (from b (p + i))) → t ≡ itemUsed d b (i + 1)
-  item-used i h e f = item-test d b (i + 1) (ap (λ (j : ℕ). j + i) e ∙ (item-run d i h).0) f
+  pub item-used : (i : ℕ) → i < d.items → p ≡ place (shapes d) (price 1) → t ≡ every (item_tests (from b (p + i))) → t ≡ item_used d b (i + 1)
+  item-used i h e f = item_test d b (i + 1) (ap (λ (j : ℕ). j + i) e ∙ (item-run d i h).0) f

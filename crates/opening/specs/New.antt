@@ -5,11 +5,11 @@ use Rattle.model.specs.declared.Dims.{Dims}
 use Rattle.model.specs.Tests.{every}
 use Rattle.model.specs.Layout.{shapes}
 use Rattle.model.specs.Store.{row_of}
-use Rattle.model.specs.Rows.{customerRow, stockRow}
-use Rattle.model.specs.Opening.{newCustomer, newStock}
+use Rattle.model.specs.Rows.{customer_row, stock_row}
+use Rattle.model.specs.Opening.{new_customer, new_stock}
 
-abbrev pub customerNew : Dims → List ℤ → ℕ → ℕ → ℕ → Bool
-customerNew d b w k c = every (newCustomer (row_of (shapes d) b (customerRow w k c)))
+abbrev pub customer_new : Dims → List ℤ → ℕ → ℕ → ℕ → Bool
+customer_new d b w k c = every (new_customer (row_of (shapes d) b (customer_row w k c)))
 
-abbrev pub stockNew : Dims → List ℤ → ℕ → ℕ → Bool
-stockNew d b w i = every (newStock (row_of (shapes d) b (stockRow w i)))
+abbrev pub stock_new : Dims → List ℤ → ℕ → ℕ → Bool
+stock_new d b w i = every (new_stock (row_of (shapes d) b (stock_row w i)))

@@ -1,14 +1,16 @@
+#![tactic(auto)]
+
 ghost use Rattle.std.specs.Prelude.{◌≡◌, ◌+◌, ◌≤◌, length};
-ghost use Rattle.model.specs.Tests.{every, allTo};
+ghost use Rattle.model.specs.Tests.{every, all_to};
 ghost use Rattle.model.specs.Store.{from};
-ghost use Rattle.model.specs.Used.{itemUsed};
-ghost use Rattle.model.specs.Answer.{refused, openingSays};
-ghost use Rattle.model.specs.Contracts.{OpeningCall};
-ghost use Rattle.model.specs.Opening.{newWarehouse, newDistrict, newCustomer, newStock, districtNew, warehouseNew, bookNew};
+ghost use Rattle.model.specs.Used.{item_used};
+ghost use Rattle.model.specs.Answer.{refused, opening_says};
+ghost use Rattle.model.specs.Promises.{OpeningCall};
+ghost use Rattle.model.specs.Opening.{new_warehouse, new_district, new_customer, new_stock, district_new, warehouse_new, book_new};
 ghost use Rattle.model.specs.Claim.{R};
 ghost use Rattle.model.proofs.Fields.{Shaped};
 ghost use Rattle.rows.specs.Book.{Booked};
-ghost use Rattle.opening.specs.New.{customerNew, stockNew};
+ghost use Rattle.opening.specs.New.{customer_new, stock_new};
 
 use layout::Head;
 use model::{Dims, OpeningAnswer, OpeningOutcome, Refusal};
@@ -16,7 +18,7 @@ use model::{Dims, OpeningAnswer, OpeningOutcome, Refusal};
 // A new warehouse's row: its tax in range, its money to date 0.
 fn new_warehouse(b: &[i64], p: u64) -> bool
     requires { p + 2 ≤ length b.now }
-    ensures { result ≡ every (newWarehouse (from b.now p)) }
+    ensures { result ≡ every (new_warehouse (from b.now p)) }
 {
     let tax = cells::get(b, p);
     let ytd = cells::get(b, p + 1);
@@ -26,7 +28,7 @@ fn new_warehouse(b: &[i64], p: u64) -> bool
 // A new district's row: its tax in range, its money to date 0, its next order number 1.
 fn new_district(b: &[i64], p: u64) -> bool
     requires { p + 3 ≤ length b.now }
-    ensures { result ≡ every (newDistrict (from b.now p)) }
+    ensures { result ≡ every (new_district (from b.now p)) }
 {
     let tax = cells::get(b, p);
     let ytd = cells::get(b, p + 1);
@@ -37,7 +39,7 @@ fn new_district(b: &[i64], p: u64) -> bool
 // A new customer's row: its credit and discount in range, the rest 0.
 fn new_customer(b: &[i64], p: u64) -> bool
     requires { p + 6 ≤ length b.now }
-    ensures { result ≡ every (newCustomer (from b.now p)) }
+    ensures { result ≡ every (new_customer (from b.now p)) }
 {
     let credit = cells::get(b, p);
     let discount = cells::get(b, p + 1);
@@ -56,7 +58,7 @@ fn new_customer(b: &[i64], p: u64) -> bool
 // A new stock's row: its on hand in range, the rest 0.
 fn new_stock(b: &[i64], p: u64) -> bool
     requires { p + 4 ≤ length b.now }
-    ensures { result ≡ every (newStock (from b.now p)) }
+    ensures { result ≡ every (new_stock (from b.now p)) }
 {
     let hand = cells::get(b, p);
     let ytd = cells::get(b, p + 1);
@@ -68,7 +70,7 @@ fn new_stock(b: &[i64], p: u64) -> bool
 // All customers of a district.
 fn new_customers(b: &[i64], d: Dims, w: u64, k: u64) -> bool
     requires { Booked d b.now × (R d.warehouses w × R 10 k) }
-    ensures { result ≡ allTo d.customers (customerNew d b.now w k) }
+    ensures { result ≡ all_to d.customers (customer_new d b.now w k) }
 {
     let base = layout::customer_at(d, w, k, 1);
     let mut i = 0;
@@ -84,7 +86,7 @@ fn new_customers(b: &[i64], d: Dims, w: u64, k: u64) -> bool
 // The stock of all items at a warehouse.
 fn new_stocks(b: &[i64], d: Dims, w: u64) -> bool
     requires { Booked d b.now × R d.warehouses w }
-    ensures { result ≡ allTo d.items (stockNew d b.now w) }
+    ensures { result ≡ all_to d.items (stock_new d b.now w) }
 {
     let base = layout::stock_at(d, w, 1);
     let mut i = 0;
@@ -100,7 +102,7 @@ fn new_stocks(b: &[i64], d: Dims, w: u64) -> bool
 // The prices of all items.
 fn items_used(b: &[i64], d: Dims) -> bool
     requires { Booked d b.now }
-    ensures { result ≡ allTo d.items (itemUsed d b.now) }
+    ensures { result ≡ all_to d.items (item_used d b.now) }
 {
     let base = layout::item_at(d, 1);
     let mut i = 0;
@@ -116,7 +118,7 @@ fn items_used(b: &[i64], d: Dims) -> bool
 // One district: its row, its customers, their names.
 fn district_new(b: &[i64], names: &[u8], d: Dims, w: u64, k: u64) -> bool
     requires { Shaped d b.now (length names.now) × (R d.warehouses w × R 10 k) }
-    ensures { result ≡ districtNew d b.now names.now w k }
+    ensures { result ≡ district_new d b.now names.now w k }
 {
     let p = layout::district_at(d, w, k);
     if !new_district(b, p) {
@@ -131,7 +133,7 @@ fn district_new(b: &[i64], names: &[u8], d: Dims, w: u64, k: u64) -> bool
 // The ten districts of a warehouse.
 fn districts_new(b: &[i64], names: &[u8], d: Dims, w: u64) -> bool
     requires { Shaped d b.now (length names.now) × R d.warehouses w }
-    ensures { result ≡ allTo 10 (districtNew d b.now names.now w) }
+    ensures { result ≡ all_to 10 (district_new d b.now names.now w) }
 {
     let mut i = 0;
     while i < 10 {
@@ -146,7 +148,7 @@ fn districts_new(b: &[i64], names: &[u8], d: Dims, w: u64) -> bool
 // One warehouse: its row, its districts, its stock.
 fn warehouse_new(b: &[i64], names: &[u8], d: Dims, w: u64) -> bool
     requires { Shaped d b.now (length names.now) × R d.warehouses w }
-    ensures { result ≡ warehouseNew d b.now names.now w }
+    ensures { result ≡ warehouse_new d b.now names.now w }
 {
     let p = layout::warehouse_at(d, w);
     if !new_warehouse(b, p) {
@@ -161,7 +163,7 @@ fn warehouse_new(b: &[i64], names: &[u8], d: Dims, w: u64) -> bool
 // All warehouses.
 fn warehouses_new(b: &[i64], names: &[u8], d: Dims) -> bool
     requires { Shaped d b.now (length names.now) }
-    ensures { result ≡ allTo d.warehouses (warehouseNew d b.now names.now) }
+    ensures { result ≡ all_to d.warehouses (warehouse_new d b.now names.now) }
 {
     let mut i = 0;
     while i < d.warehouses {
@@ -176,7 +178,7 @@ fn warehouses_new(b: &[i64], names: &[u8], d: Dims) -> bool
 // 3: the book is as opening wants it.
 fn book_new(b: &[i64], names: &[u8], d: Dims) -> bool
     requires { Shaped d b.now (length names.now) }
-    ensures { result ≡ bookNew d b.now names.now }
+    ensures { result ≡ book_new d b.now names.now }
 {
     let count = rows::history_count(b, d);
     if 0 < count {
@@ -190,7 +192,7 @@ fn book_new(b: &[i64], names: &[u8], d: Dims) -> bool
 
 // A book that is not accepted.
 fn turned_away(refusal: Refusal) -> OpeningAnswer
-    ensures { openingSays result.outcome ≡ refused refusal }
+    ensures { opening_says result.outcome ≡ refused refusal }
 {
     let outcome = OpeningOutcome::Refused(refusal);
     OpeningAnswer { outcome }

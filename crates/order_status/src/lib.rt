@@ -1,20 +1,22 @@
+#![tactic(auto)]
+
 ghost use Rattle.std.specs.Prelude.{◌≡◌, ◌≢◌, true, [], ◌∷◌, ◌+◌, ◌*◌, ◌≤◌, pos, length};
 ghost use Rattle.model.specs.Tests.{every, fault};
-ghost use Rattle.model.specs.Layout.{shapes, nameBytes};
+ghost use Rattle.model.specs.Layout.{shapes, name_bytes};
 ghost use Rattle.model.specs.Store.{get, num};
-ghost use Rattle.model.specs.Rows.{balance, lineCount};
-ghost use Rattle.model.specs.Names.{whoOf, whoTests, customerOf};
+ghost use Rattle.model.specs.Rows.{balance, line_count};
+ghost use Rattle.model.specs.Names.{who_of, who_tests, customer_of};
 ghost use Rattle.model.specs.Numbers.{nat};
-ghost use Rattle.model.specs.Used.{districtUsed, whoUsed};
-ghost use Rattle.model.specs.LastOrder.{last_at, foundOk};
-ghost use Rattle.model.specs.Answer.{refused, statusSays};
-ghost use Rattle.model.specs.OrderStatus.{statusAsked, orderShown, emptyPart, part_of, linesPart};
+ghost use Rattle.model.specs.Used.{district_used, who_used};
+ghost use Rattle.model.specs.LastOrder.{last_at, found_ok};
+ghost use Rattle.model.specs.Answer.{refused, status_says};
+ghost use Rattle.model.specs.OrderStatus.{status_asked, order_shown, empty_part, part_of, lines_part};
 ghost use Rattle.model.specs.Claim.{R};
 ghost use Rattle.model.proofs.Fields.{Dimensioned, Shaped};
 ghost use Rattle.model.proofs.StatusFacts.{StatusAsked};
-ghost use Rattle.model.specs.Contracts.{StatusCall};
+ghost use Rattle.model.specs.Promises.{StatusCall};
 ghost use Rattle.rows.specs.Book.{Booked};
-ghost use Rattle.order_status.specs.Seen.{lastTests, seenUsed, seenIn, nothing, ShownCall};
+ghost use Rattle.order_status.specs.Seen.{last_tests, seen_used, seen_in, nothing, ShownCall};
 
 use layout::Head;
 use model::{Dims, Found, OrderStatus, Part, Refusal, Selection, StatusFigures, StatusOutcome};
@@ -43,7 +45,7 @@ pub struct StatusAnswer<'a> {
 
 // The first refusal that the request alone decides.
 fn asked(d: Dims, q: OrderStatus, who: Selection, name: &[u8]) -> Refusal
-    ensures { result ≡ fault (statusAsked d q (whoOf who name.now)) }
+    ensures { result ≡ fault (status_asked d q (who_of who name.now)) }
 {
     if !cells::within(q.warehouse, 1, d.warehouses) {
         return cells::refused(4);
@@ -71,8 +73,8 @@ fn nothing_seen(number: u64) -> Seen
 
 // The customer that a request names, by number or by last name.
 fn customer_of(names: &[u8], d: Dims, w: u64, k: u64, who: Selection, name: &[u8]) -> Found
-    requires { Dimensioned d × (R d.warehouses w × (R 10 k × (length names.now ≡ nameBytes d))) }
-    ensures { result ≡ customerOf d names.now w k (whoOf who name.now) }
+    requires { Dimensioned d × (R d.warehouses w × (R 10 k × (length names.now ≡ name_bytes d))) }
+    ensures { result ≡ customer_of d names.now w k (who_of who name.now) }
 {
     match who {
         Selection::Number(c) => Found::Customer(c),
@@ -83,8 +85,8 @@ fn customer_of(names: &[u8], d: Dims, w: u64, k: u64, who: Selection, name: &[u8
 // The row of a customer given by number is in range, or by last name all rows and names of the district's customers.
 fn who_used(b: &[i64], names: &[u8], d: Dims, w: u64, k: u64, who: Selection, name: &[u8]) -> bool
     requires { Booked d b.now × (R d.warehouses w × (R 10 k
-        × ((length names.now ≡ nameBytes d) × (every (whoTests d (whoOf who name.now)) ≡ true)))) }
-    ensures { result ≡ whoUsed d b.now names.now w k (whoOf who name.now) }
+        × ((length names.now ≡ name_bytes d) × (every (who_tests d (who_of who name.now)) ≡ true)))) }
+    ensures { result ≡ who_used d b.now names.now w k (who_of who name.now) }
 {
     match who {
         Selection::Number(c) => rows::customer_used(b, d, w, k, c),
@@ -95,7 +97,7 @@ fn who_used(b: &[i64], names: &[u8], d: Dims, w: u64, k: u64, who: Selection, na
 // 13: the order that is found is in range; order 0 is none.
 fn found_ok(b: &[i64], d: Dims, w: u64, k: u64, o: u64) -> bool
     requires { Booked d b.now × (R d.warehouses w × (R 10 k × (o ≤ d.orders))) }
-    ensures { result ≡ foundOk d b.now w k o }
+    ensures { result ≡ found_ok d b.now w k o }
 {
     if o == 0 {
         return true;
@@ -107,8 +109,8 @@ fn found_ok(b: &[i64], d: Dims, w: u64, k: u64, o: u64) -> bool
 // 13: the slice, the numbers of the district in it, and the order that is found. The customer's own number and its order go before the pass over
 // the district, which takes longer: they are on their way from memory meanwhile.
 fn last_ok(b: &[i64], last: &[i64], d: Dims, w: u64, k: u64, c: u64) -> bool
-    requires { Booked d b.now × (R d.warehouses w × (R 10 k × (R d.customers c × (districtUsed d b.now w k ≡ true)))) }
-    ensures { result ≡ lastTests d b.now last.now w k (nat (last_at d last.now w k c)) }
+    requires { Booked d b.now × (R d.warehouses w × (R 10 k × (R d.customers c × (district_used d b.now w k ≡ true)))) }
+    ensures { result ≡ last_tests d b.now last.now w k (nat (last_at d last.now w k c)) }
 {
     if !last_orders::long_ok(last, d) {
         return false;
@@ -133,8 +135,8 @@ fn used(
     who: Selection,
     name: &[u8],
 ) -> Seen
-    requires { Shaped d b.now (length names.now) × StatusAsked d q (whoOf who name.now) }
-    ensures { result ≡ seenUsed d b.now names.now last.now q (whoOf who name.now) }
+    requires { Shaped d b.now (length names.now) × StatusAsked d q (who_of who name.now) }
+    ensures { result ≡ seen_used d b.now names.now last.now q (who_of who name.now) }
 {
     if !rows::district_used(b, d, q.warehouse, q.district) {
         return nothing_seen(9);
@@ -169,7 +171,7 @@ fn seen_in(
     name: &[u8],
 ) -> Seen
     requires { Shaped d b.now (length names.now) }
-    ensures { result ≡ seenIn d b.now names.now last.now q (whoOf who name.now) }
+    ensures { result ≡ seen_in d b.now names.now last.now q (who_of who name.now) }
 {
     let refusal = asked(d, q, who, name);
     if refusal.number == 0 {
@@ -186,7 +188,7 @@ fn seen_in(
 fn figures_of(b: &[i64], d: Dims, q: OrderStatus, c: u64, o: u64) -> StatusFigures
     requires { Booked d b.now × (R d.warehouses q.warehouse × (R 10 q.district × (R d.customers c × (o ≤ d.orders)))) }
     ensures { (result.customer ≡ c) × ((result.balance ≡ get (shapes d) b.now (balance q.warehouse q.district c))
-        × (pos result.order ∷ pos result.date ∷ pos result.carrier ∷ [] ≡ orderShown d b.now q.warehouse q.district o)) }
+        × (pos result.order ∷ pos result.date ∷ pos result.carrier ∷ [] ≡ order_shown d b.now q.warehouse q.district o)) }
 {
     let balance = rows::balance_of(b, d, q.warehouse, q.district, c);
     if o == 0 {
@@ -211,8 +213,8 @@ fn figures_of(b: &[i64], d: Dims, q: OrderStatus, c: u64, o: u64) -> StatusFigur
 
 // Where the lines of an order start in the book, and how many numbers they are; no numbers for order 0.
 fn part_of(b: &[i64], d: Dims, w: u64, k: u64, o: u64) -> Part
-    requires { Booked d b.now × (R d.warehouses w × (R 10 k × ((o ≤ d.orders) × (o ≢ 0 → R 15 (num (shapes d) b.now (lineCount d w k o)))))) }
-    ensures { (result.from + result.count ≤ length b.now) × (result ≡ linesPart d b.now w k o) }
+    requires { Booked d b.now × (R d.warehouses w × (R 10 k × ((o ≤ d.orders) × (o ≢ 0 → R 15 (num (shapes d) b.now (line_count d w k o)))))) }
+    ensures { (result.from + result.count ≤ length b.now) × (result ≡ lines_part d b.now w k o) }
 {
     if o == 0 {
         return Part { from: 0, count: 0 };
@@ -226,7 +228,7 @@ fn part_of(b: &[i64], d: Dims, w: u64, k: u64, o: u64) -> Part
 
 // A status that is refused shows nothing.
 fn turned_away(refusal: Refusal) -> Shown
-    ensures { (statusSays result.outcome ≡ refused refusal) × (result.part ≡ emptyPart) }
+    ensures { (status_says result.outcome ≡ refused refusal) × (result.part ≡ empty_part) }
 {
     let outcome = StatusOutcome::Refused(refusal);
     let part = Part { from: 0, count: 0 };
@@ -243,7 +245,7 @@ pub fn status_shown(
     who: Selection,
     name: &[u8],
 ) -> Shown
-    ensures { ShownCall b.now names.now last.now q (whoOf who name.now) result }
+    ensures { ShownCall b.now names.now last.now q (who_of who name.now) result }
 {
     let Head::Book(d) = layout::head_of(b, names) else {
         return turned_away(cells::refused(2));
@@ -280,7 +282,7 @@ pub fn order_status<'a>(
     who: Selection,
     name: &[u8],
 ) -> StatusAnswer<'a>
-    ensures { StatusCall b.now names.now last.now q (whoOf who name.now)
+    ensures { StatusCall b.now names.now last.now q (who_of who name.now)
         result.outcome result.lines.now b.entry.ref_ptr result.lines.ptr }
 {
     let s = status_shown(b, names, last, q, who, name);

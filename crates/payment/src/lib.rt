@@ -1,17 +1,19 @@
+#![tactic(auto)]
+
 ghost use Rattle.std.specs.Prelude.{◌≡◌, ◌&&◌, ◌+◌, ◌≤◌, length, drop};
 ghost use Rattle.model.specs.Tests.{fault};
-ghost use Rattle.model.specs.Used.{warehouseUsed, districtUsed};
+ghost use Rattle.model.specs.Used.{warehouse_used, district_used};
 ghost use Rattle.model.specs.Claim.{R};
-ghost use Rattle.model.specs.Names.{byNumber, byName, whoOf};
-ghost use Rattle.model.specs.Answer.{refused, paymentSays};
-ghost use Rattle.model.specs.Contracts.{PaymentCall};
-ghost use Rattle.model.specs.Note.{noteBytes};
-ghost use Rattle.model.specs.Payment.{payAsked, payUsed, payer, historyNumbers};
+ghost use Rattle.model.specs.Names.{by_number, by_name, who_of};
+ghost use Rattle.model.specs.Answer.{refused, payment_says};
+ghost use Rattle.model.specs.Promises.{PaymentCall};
+ghost use Rattle.model.specs.Note.{note_bytes};
+ghost use Rattle.model.specs.Payment.{pay_asked, pay_used, payer, history_numbers};
 ghost use Rattle.model.proofs.Fields.{Shaped};
 ghost use Rattle.model.proofs.PaymentFacts.{PayAsked};
 ghost use Rattle.model.proofs.Rewrite.{puts};
 ghost use Rattle.rows.specs.Book.{Booked};
-ghost use Rattle.payment.specs.Plan.{payerBy, nobody, payerFrom, payerIn, Payable, plan_of, Storable, Small, storePlan, Settled};
+ghost use Rattle.payment.specs.Plan.{payer_by, nobody, payer_from, payer_in, Payable, plan_of, Storable, Small, store_plan, Settled};
 
 use layout::Head;
 use model::{
@@ -45,7 +47,7 @@ pub struct Plan {
 
 // The first refusal that the request alone decides.
 fn asked(d: Dims, q: Payment, who: Selection, name: &[u8]) -> Refusal
-    ensures { result ≡ fault (payAsked d q (whoOf who name.now)) }
+    ensures { result ≡ fault (pay_asked d q (who_of who name.now)) }
 {
     let custwarehouse = cells::within(q.custwarehouse, 1, d.warehouses);
     if !(cells::within(q.warehouse, 1, d.warehouses) & custwarehouse) {
@@ -81,7 +83,7 @@ fn nobody_pays(number: u64) -> Payer
 // Customer c pays where the history has room for one row more. Names stand in the contract alone, as in by_number.
 fn with_room(b: &[i64], names: &[u8], d: Dims, q: Payment, c: u64) -> Payer
     requires { Shaped d b.now (length names.now) }
-    ensures { result ≡ payerBy (fault (drop 4 (payUsed d b.now names.now q (byNumber c)))) c }
+    ensures { result ≡ payer_by (fault (drop 4 (pay_used d b.now names.now q (by_number c)))) c }
 {
     let row = rows::history_count(b, d) + 1;
     if d.histories < row {
@@ -96,8 +98,8 @@ fn with_room(b: &[i64], names: &[u8], d: Dims, q: Payment, c: u64) -> Payer
 
 // What is decided after warehouse and district, of a customer given by number.
 fn by_number(b: &[i64], names: &[u8], d: Dims, q: Payment, c: u64) -> Payer
-    requires { Shaped d b.now (length names.now) × PayAsked d q (byNumber c) }
-    ensures { result ≡ payerFrom 2 d b.now names.now q (byNumber c) }
+    requires { Shaped d b.now (length names.now) × PayAsked d q (by_number c) }
+    ensures { result ≡ payer_from 2 d b.now names.now q (by_number c) }
 {
     if !rows::customer_used(b, d, q.custwarehouse, q.custdistrict, c) {
         return nobody_pays(9);
@@ -107,8 +109,8 @@ fn by_number(b: &[i64], names: &[u8], d: Dims, q: Payment, c: u64) -> Payer
 
 // The same of a customer given by last name.
 fn by_name(b: &[i64], names: &[u8], d: Dims, q: Payment, name: &[u8]) -> Payer
-    requires { Shaped d b.now (length names.now) × PayAsked d q (byName name.now) }
-    ensures { result ≡ payerFrom 2 d b.now names.now q (byName name.now) }
+    requires { Shaped d b.now (length names.now) × PayAsked d q (by_name name.now) }
+    ensures { result ≡ payer_from 2 d b.now names.now q (by_name name.now) }
 {
     if !lookup::named_used(b, names, d, q.custwarehouse, q.custdistrict) {
         return nobody_pays(9);
@@ -123,7 +125,7 @@ fn by_name(b: &[i64], names: &[u8], d: Dims, q: Payment, name: &[u8]) -> Payer
 // 9: the rows of the terminal's warehouse and district are in range.
 fn terminal_used(b: &[i64], d: Dims, q: Payment) -> bool
     requires { Booked d b.now × (R d.warehouses q.warehouse × R 10 q.district) }
-    ensures { result ≡ (warehouseUsed d b.now q.warehouse && districtUsed d b.now q.warehouse q.district) }
+    ensures { result ≡ (warehouse_used d b.now q.warehouse && district_used d b.now q.warehouse q.district) }
 {
     let warehouse = rows::warehouse_used(b, d, q.warehouse);
     let district = rows::district_used(b, d, q.warehouse, q.district);
@@ -132,8 +134,8 @@ fn terminal_used(b: &[i64], d: Dims, q: Payment) -> bool
 
 // The first refusal that the rows and names decide, and who pays.
 fn used(b: &[i64], names: &[u8], d: Dims, q: Payment, who: Selection, name: &[u8]) -> Payer
-    requires { Shaped d b.now (length names.now) × PayAsked d q (whoOf who name.now) }
-    ensures { result ≡ payerFrom 0 d b.now names.now q (whoOf who name.now) }
+    requires { Shaped d b.now (length names.now) × PayAsked d q (who_of who name.now) }
+    ensures { result ≡ payer_from 0 d b.now names.now q (who_of who name.now) }
 {
     if !terminal_used(b, d, q) {
         return nobody_pays(9);
@@ -147,7 +149,7 @@ fn used(b: &[i64], names: &[u8], d: Dims, q: Payment, who: Selection, name: &[u8
 // The first refusal of what request, rows and names decide, and who pays where there is none.
 fn payer_in(b: &[i64], names: &[u8], d: Dims, q: Payment, who: Selection, name: &[u8]) -> Payer
     requires { Shaped d b.now (length names.now) }
-    ensures { result ≡ payerIn d b.now names.now q (whoOf who name.now) }
+    ensures { result ≡ payer_in d b.now names.now q (who_of who name.now) }
 {
     let refusal = asked(d, q, who, name);
     if refusal.number == 0 {
@@ -198,7 +200,7 @@ fn plan_of(b: &[i64], d: Dims, q: Payment, c: u64) -> Plan
 // A history row, stored.
 fn store_history(b: &mut [i64], p: u64, q: Payment, c: u64)
     requires { (p + 7 ≤ length b.old) × Small q c }
-    ensures { b.new ≡ puts b.old p 0 (historyNumbers q c) }
+    ensures { b.new ≡ puts b.old p 0 (history_numbers q c) }
 {
     cells::put(b, p, c);
     cells::put(b, p + 1, q.custdistrict);
@@ -212,7 +214,7 @@ fn store_history(b: &mut [i64], p: u64, q: Payment, c: u64)
 // A plan, stored.
 fn store_plan(b: &mut [i64], p: Plan, q: Payment, c: u64)
     requires { Storable (length b.old) p × Small q c }
-    ensures { b.new ≡ storePlan b.old p q c }
+    ensures { b.new ≡ store_plan b.old p q c }
 {
     cells::put(b, p.warehouse, p.warehouseytd);
     cells::put(b, p.district, p.districtytd);
@@ -225,7 +227,7 @@ fn store_plan(b: &mut [i64], p: Plan, q: Payment, c: u64)
 
 // A payment by customer c that no refusal applies to; answers the balance. Where the credit is bad, it is noted in the customer's text.
 fn commit(b: &mut [i64], notes: &mut [u8], d: Dims, q: Payment, c: u64) -> i64
-    requires { Payable d b.old q c × (length notes.old ≡ noteBytes d) }
+    requires { Payable d b.old q c × (length notes.old ≡ note_bytes d) }
     ensures { Settled d b.old notes.old q c result b.new notes.new }
 {
     let p = plan_of(b, d, q, c);
@@ -239,7 +241,7 @@ fn commit(b: &mut [i64], notes: &mut [u8], d: Dims, q: Payment, c: u64) -> i64
 
 // A payment that is refused.
 fn turned_away(refusal: Refusal) -> PaymentAnswer
-    ensures { paymentSays result.outcome ≡ refused refusal }
+    ensures { payment_says result.outcome ≡ refused refusal }
 {
     let outcome = PaymentOutcome::Refused(refusal);
     PaymentAnswer { outcome }
@@ -254,7 +256,7 @@ pub fn payment(
     who: Selection,
     name: &[u8],
 ) -> PaymentAnswer
-    ensures { PaymentCall b.old names.now notes.old q (whoOf who name.now)
+    ensures { PaymentCall b.old names.now notes.old q (who_of who name.now)
         result b.new notes.new }
 {
     let Head::Book(d) = layout::head_of(b, names) else {

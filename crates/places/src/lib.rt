@@ -1,8 +1,10 @@
 // Where the rows of a book stand, by its sizes alone: for callers that lay a book out themselves.
+#![tactic(auto)]
+
 ghost use Rattle.std.specs.Prelude.{◌≡◌, ◌∷◌};
 ghost use Rattle.model.specs.Tests.{every};
 ghost use Rattle.model.proofs.Fields.{Dimensioned};
-ghost use Rattle.places.specs.Places.{spotTests, Spotted, places_of, placesOut};
+ghost use Rattle.places.specs.Places.{spot_tests, Spotted, places_of, places_out};
 
 use model::Dims;
 
@@ -19,7 +21,7 @@ pub struct Spot {
 
 // Each is 1 to its size.
 fn spot_ok(d: Dims, s: Spot) -> bool
-    ensures { result ≡ every (spotTests d s) }
+    ensures { result ≡ every (spot_tests d s) }
 {
     cells::within(s.warehouse, 1, d.warehouses)
         & cells::within(s.district, 1, 10)
@@ -52,7 +54,7 @@ fn placed(d: Dims, s: Spot) -> [u64; 12]
 // Number, detail, how many numbers and name bytes the book has, then where the rows of a warehouse, a district, a customer, an item, a stock,
 // an order slot and a history slot start, and where the customer's names do.
 pub fn places(d: Dims, s: Spot) -> [u64; 12]
-    ensures { result ≡ placesOut d s }
+    ensures { result ≡ places_out d s }
 {
     if layout::dims_in_range(d) & spot_ok(d, s) {
         placed(d, s)

@@ -15,51 +15,51 @@ use Rattle.model.specs.declared.QueueAnswer.{QueueAnswer}
 use Rattle.model.specs.declared.QueueOutcome.TheVariants as QueueCase
 use Rattle.model.specs.declared.Waiting.{Waiting}
 use Rattle.model.specs.Tests.{within}
-use Rattle.model.specs.Numbers.{maxDate}
-use Rattle.model.specs.Text.{tabbed, lineText, onFront}
-use Rattle.model.specs.Answer.{deliverySays}
-use Rattle.model.specs.Queue.{free, queueFault, queueAnswer, queueAfter, runFault, firstIn, runRequest, movedUp, runQueue, runAnswer, runOrders, runBook, resultLine, runBuffer}
-use Rattle.model.specs.Contracts.{DeliveryCall, QueueCall, RunCall}
+use Rattle.model.specs.Numbers.{max_date}
+use Rattle.model.specs.Text.{tabbed, line_text, on_front}
+use Rattle.model.specs.Answer.{delivery_says}
+use Rattle.model.specs.Queue.{free, queue_fault, queue_answer, queue_after, run_fault, first_in, run_request, moved_up, run_queue, run_answer, run_orders, run_book, result_line, run_buffer}
+use Rattle.model.specs.Promises.{DeliveryCall, QueueCall, RunCall}
 use Rattle.text.specs.Writing.{Wrote}
 use Rattle.text.proofs.Putting.{wrote_then}
 use Rattle.queue.specs.declared.Ran.{Ran}
-use Rattle.queue.specs.Steps.{notQueued, NotRun}
+use Rattle.queue.specs.Steps.{not_queued, NotRun}
 
 -- ── the call that queues ──
 module _ (q : Queue) (x : Waiting) where
-  pub full : ltb q.count 16 ≡ false → QueueCall q x (notQueued q 15).answer q
-  unfolding queueFault queueAnswer queueAfter
+  pub full : ltb q.count 16 ≡ false → QueueCall q x (not_queued q 15).answer q
+  unfolding queue_fault queue_answer queue_after
   full e = record { says = rw e; keeps = rw e }
 
-  pub misdated : ltb q.count 16 ≡ true → within x.date 1 maxDate ≡ false → QueueCall q x (notQueued q 7).answer q
-  unfolding queueFault queueAnswer queueAfter
+  pub misdated : ltb q.count 16 ≡ true → within x.date 1 max_date ≡ false → QueueCall q x (not_queued q 7).answer q
+  unfolding queue_fault queue_answer queue_after
   misdated e d = record { says = rw (e, d); keeps = rw (e, d) }
 
   abbrev behind : QueueAnswer
   behind = record { outcome = QueueCase.Committed (record { before = q.count }) }
 
-  pub joins : ltb q.count 16 ≡ true → within x.date 1 maxDate ≡ true
+  pub joins : ltb q.count 16 ≡ true → within x.date 1 max_date ≡ true
       → QueueCall q x behind (record { count = q.count + 1; waiting = set q.waiting q.count x })
-  unfolding queueFault queueAnswer queueAfter
+  unfolding queue_fault queue_answer queue_after
   joins e d = record { says = rw (e, d); keeps = rw (e, d) }
 
 -- ── the call that runs ──
 module _ (b : List ℤ) (names : List ℕ) (q : Queue) (date : ℕ) (buffer : List ℕ) where
   -- 16 by the count, and by the buffer
   pub uncounted : (r : Ran) → within q.count 1 16 ≡ false → NotRun q r → RunCall b names q date buffer r.answer b r.queue buffer
-  unfolding runFault runAnswer runOrders runBook runQueue runBuffer
+  unfolding run_fault run_answer run_orders run_book run_queue run_buffer
   uncounted r e n = record { says = rw e n.says; orders = rw e n.orders; leaves = rw e; keeps = rw e n.keeps; writes = rw e }
 
   pub cramped : (r : Ran) → within q.count 1 16 ≡ true → leb 400 (length buffer) ≡ false → NotRun q r → RunCall b names q date buffer r.answer b r.queue buffer
-  unfolding runFault runAnswer runOrders runBook runQueue runBuffer
+  unfolding run_fault run_answer run_orders run_book run_queue run_buffer
   cramped r e l n =
       record { says = rw (e, l) n.says; orders = rw (e, l) n.orders; leaves = rw (e, l); keeps = rw (e, l) n.keeps; writes = rw (e, l) }
 
   -- the first carried out, its line written, the others moved up
   pub carried : (a : DeliveryAnswer) (left : List ℤ) (written : List ℕ) → within q.count 1 16 ≡ true → leb 400 (length buffer) ≡ true
-      → DeliveryCall b names (runRequest q date) a left → written ≡ onFront (resultLine (firstIn q) date (deliverySays a.outcome) a.orders) buffer
-      → RunCall b names q date buffer a left (movedUp q) written
-  unfolding runFault runAnswer runOrders runBook runQueue runBuffer
+      → DeliveryCall b names (run_request q date) a left → written ≡ on_front (result_line (first_in q) date (delivery_says a.outcome) a.orders) buffer
+      → RunCall b names q date buffer a left (moved_up q) written
+  unfolding run_fault run_answer run_orders run_book run_queue run_buffer
   carried a left written e l d w =
       record {
         says = rw (e, l) d.says;
@@ -71,8 +71,8 @@ module _ (b : List ℤ) (names : List ℕ) (q : Queue) (date : ℕ) (buffer : Li
 
 -- ── those behind the first moved up ──
 -- a place stored where the moved ones end
-put-at : (k : ℕ) (us ws : List Waiting) (x : Waiting) → k ≤ length us → k < length ws → set (take k us ++ drop k ws) k x ≡ take k us ++ (x ∷ drop (suc k) ws)
-put-at k us ws x h l =
+put_at : (k : ℕ) (us ws : List Waiting) (x : Waiting) → k ≤ length us → k < length ws → set (take k us ++ drop k ws) k x ≡ take k us ++ (x ∷ drop (suc k) ws)
+put_at k us ws x h l =
     ap (λ (vs : List Waiting). set (take k us ++ vs) k x) (drop-cons ws k free l)
     ∙ ap (λ (i : ℕ). set (take k us ++ (get_or ws k free ∷ drop (suc k) ws)) i x) (sym (length-take-le k us h))
     ∙ set-append_seam (take k us) (get_or ws k free) (drop (suc k) ws) x
@@ -89,7 +89,7 @@ module _ (ws : List Waiting) (i : ℕ) (lo : 1 ≤ i) where
       let l : i - 1 < length (drop 1 ws) = omega (arith, length-drop 1 ws) in
       let next : take (suc (i - 1)) (drop 1 ws) ≡ take (i - 1) (drop 1 ws) ++ (get_or ws i free ∷ []) =
       take-suc (drop 1 ws) (i - 1) free l ∙ ap (λ (x : Waiting). take (i - 1) (drop 1 ws) ++ (x ∷ [])) (get_or-drop 1 ws (i - 1) free ∙ ap (λ (j : ℕ). get_or ws j free) m) in
-      put-at (i - 1) (drop 1 ws) ws (get_or ws i free) (omega arith) (omega arith)
+      put_at (i - 1) (drop 1 ws) ws (get_or ws i free) (omega arith) (omega arith)
       ∙ sym (append_assoc (take (i - 1) (drop 1 ws)) (get_or ws i free ∷ []) (drop (suc (i - 1)) ws))
       ∙ ap (λ (vs : List Waiting). vs ++ drop (suc (i - 1)) ws) (sym next)
       ∙ ap (λ (j : ℕ). take j (drop 1 ws) ++ drop j ws) (sym n)
@@ -97,12 +97,12 @@ module _ (ws : List Waiting) (i : ℕ) (lo : 1 ≤ i) where
   pub move-last : i ≤ length ws → set (moved_to ws i) (i - 1) free ≡ take (i - 1) (drop 1 ws) ++ (free ∷ drop i ws)
   move-last h =
       let m : suc (i - 1) ≡ i = omega arith in
-      put-at (i - 1) (drop 1 ws) ws free (omega (arith, length-drop 1 ws)) (omega arith)
+      put_at (i - 1) (drop 1 ws) ws free (omega (arith, length-drop 1 ws)) (omega arith)
       ∙ ap (λ (j : ℕ). take (i - 1) (drop 1 ws) ++ (free ∷ drop j ws)) m
 
 -- ── the result line ──
 -- a line of a first field, the others and byte 10
-pub fields-line : (l m k : List ℕ) (p e : ℕ) (f : List ℕ) (fs : List (List ℕ)) → Wrote l m 0 p f → Wrote m k p e (tabbed fs) → Wrote l (set k e 10) 0 (e + 1) (lineText (f ∷ fs))
-unfolding lineText
+pub fields-line : (l m k : List ℕ) (p e : ℕ) (f : List ℕ) (fs : List (List ℕ)) → Wrote l m 0 p f → Wrote m k p e (tabbed fs) → Wrote l (set k e 10) 0 (e + 1) (line_text (f ∷ fs))
+unfolding line_text
 fields-line l m k p e f fs a b =
     wrote_then l k (set k e 10) 0 e (e + 1) (f ++ tabbed fs) (10 ∷ []) (wrote_then l m k 0 p e f (tabbed fs) a b) (record { same = refl; place = refl })

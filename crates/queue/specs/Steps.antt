@@ -5,17 +5,17 @@ use Rattle.model.specs.declared.Queue.{Queue}
 use Rattle.model.specs.declared.QueueOutcome.TheVariants as QueueCase
 use Rattle.model.specs.Tests.{bare}
 use Rattle.model.specs.Text.{positives}
-use Rattle.model.specs.Answer.{refused, deliverySays}
+use Rattle.model.specs.Answer.{refused, delivery_says}
 use Rattle.queue.specs.declared.Joined.{Joined}
 use Rattle.queue.specs.declared.Ran.{Ran}
 
 -- a queuing call that is refused
-abbrev pub notQueued : Queue → ℕ → Joined
-notQueued q number = record { queue = q; answer = record { outcome = QueueCase.Refused (bare number) } }
+abbrev pub not_queued : Queue → ℕ → Joined
+not_queued q number = record { queue = q; answer = record { outcome = QueueCase.Refused (bare number) } }
 
 -- a run that is refused by 16
 pub record NotRun (q : Queue) (r : Ran) : Type 0 where
-  pub says : deliverySays r.answer.outcome ≡ refused (bare 16)
+  pub says : delivery_says r.answer.outcome ≡ refused (bare 16)
   pub orders : r.answer.orders ≡ replicate 10 0
   pub keeps : r.queue ≡ q
 

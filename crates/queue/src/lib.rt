@@ -1,12 +1,14 @@
 // R-5: Deliveries that wait their turn. Each step takes the waiting list by value and hands it back; the two calls are lent it.
+#![tactic(auto)]
+
 ghost use Rattle.std.specs.Prelude.{◌≡◌, true, ◌+◌, ◌≤◌, length};
 ghost use Rattle.model.specs.Tests.{within};
-ghost use Rattle.model.specs.Text.{signeds, tabbed, onFront};
-ghost use Rattle.model.specs.Answer.{deliverySays};
-ghost use Rattle.model.specs.Queue.{movedUp, ended, resultLine};
-ghost use Rattle.model.specs.Contracts.{QueueCall, RunCall};
+ghost use Rattle.model.specs.Text.{signeds, tabbed, on_front};
+ghost use Rattle.model.specs.Answer.{delivery_says};
+ghost use Rattle.model.specs.Queue.{moved_up, ended, result_line};
+ghost use Rattle.model.specs.Promises.{QueueCall, RunCall};
 ghost use Rattle.text.specs.Writing.{Wrote};
-ghost use Rattle.queue.specs.Steps.{notQueued, NotRun, served};
+ghost use Rattle.queue.specs.Steps.{not_queued, NotRun, served};
 
 use model::{
     Delivery, DeliveryAnswer, DeliveryOutcome, Queue, QueueAnswer, QueueFigures, QueueOutcome,
@@ -29,7 +31,7 @@ pub struct Ran {
 
 // A queuing call that is refused.
 fn not_queued(q: Queue, number: u64) -> Joined
-    ensures { result ≡ notQueued q number }
+    ensures { result ≡ not_queued q number }
 {
     let outcome = QueueOutcome::Refused(cells::refused(number));
     let answer = QueueAnswer { outcome };
@@ -59,7 +61,7 @@ pub fn join_last(q: Queue, x: Waiting) -> Joined
 // Those behind the first, each a place forward; the last of their places is free.
 fn moved_up(q: Queue) -> Queue
     requires { within q.count 1 16 ≡ true }
-    ensures { result ≡ movedUp q }
+    ensures { result ≡ moved_up q }
 {
     let n = q.count as usize;
     let mut queue = q;
@@ -91,7 +93,7 @@ fn put_served(buffer: &mut [u8], at: usize, skipped: u64, orders: [u64; 10]) -> 
 // How a run ended, each number after a tab.
 fn put_end(buffer: &mut [u8], at: usize, o: DeliveryOutcome, orders: [u64; 10]) -> usize
     requires { at + 231 ≤ length buffer.old }
-    ensures { Wrote buffer.old buffer.new at result (tabbed (signeds (ended (deliverySays o) orders))) × (result ≤ at + 231) }
+    ensures { Wrote buffer.old buffer.new at result (tabbed (signeds (ended (delivery_says o) orders))) × (result ≤ at + 231) }
 {
     match o {
         DeliveryOutcome::Committed(f) => put_served(buffer, at, f.skipped, orders),
@@ -102,7 +104,7 @@ fn put_end(buffer: &mut [u8], at: usize, o: DeliveryOutcome, orders: [u64; 10]) 
 // A run's line at the buffer's front.
 fn write_result(buffer: &mut [u8], x: Waiting, date: u64, a: DeliveryAnswer)
     requires { 400 ≤ length buffer.old }
-    ensures { buffer.new ≡ onFront (resultLine x date (deliverySays a.outcome) a.orders) buffer.old }
+    ensures { buffer.new ≡ on_front (result_line x date (delivery_says a.outcome) a.orders) buffer.old }
 {
     let first = text::put_digits(buffer, 0, x.date);
     let p = text::put_three(buffer, first, x.warehouse, x.carrier, date);

@@ -11,8 +11,8 @@ use lib.Seq.{take_all, take-take, take-suc, take-suc-set, take-append_seam, set-
 use Rattle.model.specs.declared.Line.{Line}
 use Rattle.model.specs.declared.Lines.{Lines}
 use Rattle.model.specs.Request.{lines_of, line_at}
-use Rattle.model.proofs.Zipped.{noLine, Within}
-use Rattle.records.specs.Gathered.{noLines, withLine, front, Gathered}
+use Rattle.model.proofs.Zipped.{no_line, Within}
+use Rattle.records.specs.Gathered.{no_lines, with_line, front, Gathered}
 
 -- entry i of the three stored
 pub front-set : (i : ℕ) (is ss qs : List ℕ) (x : Line) → Within (suc i) is ss qs
@@ -49,12 +49,12 @@ listed-all is ss qs ls i h a b c l e =
     rw (take_all i ls (omega arith), take_all i is (omega arith), take_all i ss (omega arith), take_all i qs (omega arith)) at e
 
 -- past their end lines are zeros
-none_left : (m i : ℕ) → get_or (replicate m noLine) i noLine ≡ noLine
+none_left : (m i : ℕ) → get_or (replicate m no_line) i no_line ≡ no_line
 none_left zero i = refl
 none_left (suc m) zero = refl
 none_left (suc m) (suc i) = none_left m i
 
-past_end : (ls : List Line) (i m : ℕ) → get_or (ls ++ replicate m noLine) i noLine ≡ get_or ls i noLine
+past_end : (ls : List Line) (i m : ℕ) → get_or (ls ++ replicate m no_line) i no_line ≡ get_or ls i no_line
 past_end [] i m = none_left m i
 past_end (x ∷ ls) zero m = refl
 past_end (x ∷ ls) (suc i) m = past_end ls i m
@@ -73,8 +73,8 @@ front-take n l = lines-take n l.items l.supplies l.quantities
 
 -- ── what is gathered when line i is next ──
 abbrev pub first_of : List Line → ℕ → Lines
-first_of ls zero = noLines (length ls)
-first_of ls (suc i) = withLine (first_of ls i) i (get_or ls i noLine)
+first_of ls zero = no_lines (length ls)
+first_of ls (suc i) = with_line (first_of ls i) i (get_or ls i no_line)
 
 module _ (ls : List Line) where
   count-first : (i : ℕ) → (first_of ls i).count ≡ length ls
@@ -86,41 +86,41 @@ module _ (ls : List Line) where
   room-first (suc i) =
       let h = room-first i in
       record {
-        items = rw (length-set (first_of ls i).items i (get_or ls i noLine).item) h.items;
-        supplies = rw (length-set (first_of ls i).supplies i (get_or ls i noLine).supply) h.supplies;
-        quantities = rw (length-set (first_of ls i).quantities i (get_or ls i noLine).quantity) h.quantities;
+        items = rw (length-set (first_of ls i).items i (get_or ls i no_line).item) h.items;
+        supplies = rw (length-set (first_of ls i).supplies i (get_or ls i no_line).supply) h.supplies;
+        quantities = rw (length-set (first_of ls i).quantities i (get_or ls i no_line).quantity) h.quantities;
       }
 
   -- the lines of i turns
-  front-first : (i : ℕ) → i ≤ 15 → front i (first_of ls i) ≡ take i (ls ++ replicate 15 noLine)
+  front-first : (i : ℕ) → i ≤ 15 → front i (first_of ls i) ≡ take i (ls ++ replicate 15 no_line)
   unfolding lines_of
   front-first zero h = refl
   front-first (suc i) h =
       let l = first_of ls i in
-      let x = get_or ls i noLine in
+      let x = get_or ls i no_line in
       let r = room-first i in
       let v : Within (suc i) l.items l.supplies l.quantities =
       record { items = omega (arith, r.items); supplies = omega (arith, r.supplies); quantities = omega (arith, r.quantities) } in
-      let inside : i < length (ls ++ replicate 15 noLine) = rw (length-append, length-replicate) (omega arith) in
+      let inside : i < length (ls ++ replicate 15 no_line) = rw (length-append, length-replicate) (omega arith) in
       front-set i l.items l.supplies l.quantities x v
       ∙ ap (λ (xs : List Line). xs ++ (x ∷ [])) (front-first i (omega arith))
-      ∙ ap (λ (y : Line). take i (ls ++ replicate 15 noLine) ++ (y ∷ [])) (sym (past_end ls i 15))
-      ∙ sym (take-suc (ls ++ replicate 15 noLine) i noLine inside)
+      ∙ ap (λ (y : Line). take i (ls ++ replicate 15 no_line) ++ (y ∷ [])) (sym (past_end ls i 15))
+      ∙ sym (take-suc (ls ++ replicate 15 no_line) i no_line inside)
 
-  all-gathered : Gathered ls (first_of ls 15)
-  all-gathered = record { count-is = count-first 15; lines_are = front-first 15 (omega arith) }
+  all_gathered : Gathered ls (first_of ls 15)
+  all_gathered = record { count_is = count-first 15; lines_are = front-first 15 (omega arith) }
 
   -- at the loop's end
-  pub gathered-at : (i : ℕ) → i ≤ 15 → 15 ≤ i → Gathered ls (first_of ls i)
-  gathered-at i h g = let e : i ≡ 15 = omega arith in rw e all-gathered
+  pub gathered_at : (i : ℕ) → i ≤ 15 → 15 ≤ i → Gathered ls (first_of ls i)
+  gathered_at i h g = let e : i ≡ 15 = omega arith in rw e all_gathered
 
 -- where there are at most 15 lines, the front of the arrays holds all of them and nothing else
 pub few-lines : (ls : List Line) (l : Lines) → Gathered ls l → length ls ≤ 15 → front (length ls) l ≡ ls
 few-lines ls l g h =
     let n = length ls in
-    let pad = ls ++ replicate 15 noLine in
+    let pad = ls ++ replicate 15 no_line in
     front-take n l
     ∙ sym (take-take n 15 (lines_of l.items l.supplies l.quantities) h)
     ∙ ap (take n) (sym (front-take 15 l) ∙ g.lines_are)
     ∙ take-take n 15 pad h
-    ∙ take-append_seam ls (replicate 15 noLine)
+    ∙ take-append_seam ls (replicate 15 no_line)

@@ -4,15 +4,15 @@ use Rattle.std.specs.Prelude.{◌≡◌, List, ◌++◌, ℕ, length, take, set,
 use Rattle.model.specs.declared.Line.{Line}
 use Rattle.model.specs.declared.Lines.{Lines}
 use Rattle.model.specs.Request.{lines_of}
-use Rattle.model.proofs.Zipped.{noLine}
+use Rattle.model.proofs.Zipped.{no_line}
 
 -- none of n lines yet
-abbrev pub noLines : ℕ → Lines
-noLines n = record { count = n; items = replicate 15 0; supplies = replicate 15 0; quantities = replicate 15 0 }
+abbrev pub no_lines : ℕ → Lines
+no_lines n = record { count = n; items = replicate 15 0; supplies = replicate 15 0; quantities = replicate 15 0 }
 
 -- one line more, at place i
-abbrev pub withLine : Lines → ℕ → Line → Lines
-withLine l i x =
+abbrev pub with_line : Lines → ℕ → Line → Lines
+with_line l i x =
     record {
       count = l.count;
       items = set l.items i x.item;
@@ -26,5 +26,5 @@ front n l = lines_of (take n l.items) (take n l.supplies) (take n l.quantities)
 
 -- how many lines there are, all counted, and the first 15 of them, zeros past their end: every number of the arrays
 pub record Gathered (lines : List Line) (l : Lines) : Type 0 where
-  pub count-is : l.count ≡ length lines
-  pub lines_are : front 15 l ≡ take 15 (lines ++ replicate 15 noLine)
+  pub count_is : l.count ≡ length lines
+  pub lines_are : front 15 l ≡ take 15 (lines ++ replicate 15 no_line)

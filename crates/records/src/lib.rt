@@ -1,14 +1,16 @@
 // Lines as records: read where they lie, gathered into three arrays, and put together from them.
+#![tactic(auto)]
+
 ghost use Rattle.std.specs.Prelude.{◌≡◌, ◌<◌, ltb, get_or};
 ghost use Rattle.model.specs.Request.{lines_of};
-ghost use Rattle.model.proofs.Zipped.{noLine};
-ghost use Rattle.records.specs.Gathered.{noLines, withLine, Gathered};
+ghost use Rattle.model.proofs.Zipped.{no_line};
+ghost use Rattle.records.specs.Gathered.{no_lines, with_line, Gathered};
 
 use model::{Line, Lines};
 
 // Line i of the lent lines, zeros past their end: the one function that reads them.
 pub fn line_in(lines: &[Line], i: usize) -> Line
-    ensures { result ≡ get_or lines.now i noLine }
+    ensures { result ≡ get_or lines.now i no_line }
 {
     if i < lines.len() {
         return lines[i];
@@ -22,7 +24,7 @@ pub fn line_in(lines: &[Line], i: usize) -> Line
 
 // None of n lines yet.
 fn no_lines(n: usize) -> Lines
-    ensures { result ≡ noLines n }
+    ensures { result ≡ no_lines n }
 {
     let items = [0u64; 15];
     let supplies = [0u64; 15];
@@ -45,7 +47,7 @@ fn more(i: usize) -> bool
 // One line more, at place i.
 fn with_line(l: Lines, i: usize, x: Line) -> Lines
     requires { i < 15 }
-    ensures { result ≡ withLine l i x }
+    ensures { result ≡ with_line l i x }
 {
     let mut next = l;
     next.items[i] = x.item;

@@ -7,17 +7,17 @@ use Prim.Native.Nat.{ℕ, ◌+◌, ◌<◌, ◌≤◌}
 use native.Mathlib.Nat.{le_antisymm}
 use native.Mathlib.Omega.{arith}
 use borrow.Author.Tests.{not-true, not-false}
-use Rattle.model.specs.Tests.{allTo}
-use Rattle.model.proofs.TestLaws.{and_both, all-step, all-fails}
+use Rattle.model.specs.Tests.{all_to}
+use Rattle.model.proofs.TestLaws.{and_both, all-step, all_fails}
 
 module _ (f : ℕ → Bool) where
   -- a test that failed
-  pub all_left : (n i : ℕ) {t : Bool} → i < n → t ≡ f (i + 1) → not t ≡ true → false ≡ allTo n f
-  all_left n i {t} h e s = sym (all-fails f n (i + 1) (record { lo = omega arith; hi = omega arith }) (sym e ∙ not-true t s))
+  pub all_left : (n i : ℕ) {t : Bool} → i < n → t ≡ f (i + 1) → not t ≡ true → false ≡ all_to n f
+  all_left n i {t} h e s = sym (all_fails f n (i + 1) (record { lo = omega arith; hi = omega arith }) (sym e ∙ not-true t s))
 
   -- one turn more, after a test that held
-  pub all-again : (i : ℕ) {t : Bool} → allTo i f ≡ true → t ≡ f (i + 1) → not t ≡ false → allTo (i + 1) f ≡ true
-  all-again i {t} p e s = all-step f i ∙ and_both (allTo i f) (f (i + 1)) p (sym e ∙ not-false t s)
+  pub all_again : (i : ℕ) {t : Bool} → all_to i f ≡ true → t ≡ f (i + 1) → not t ≡ false → all_to (i + 1) f ≡ true
+  all_again i {t} p e s = all-step f i ∙ and_both (all_to i f) (f (i + 1)) p (sym e ∙ not-false t s)
 
-  pub all_end : {n i : ℕ} {t : Bool} → i ≤ n → n ≤ i → allTo i f ≡ t → t ≡ allTo n f
-  all_end h k e = sym e ∙ ap (λ (m : ℕ). allTo m f) (le_antisymm h k)
+  pub all_end : {n i : ℕ} {t : Bool} → i ≤ n → n ≤ i → all_to i f ≡ t → t ≡ all_to n f
+  all_end h k e = sym e ∙ ap (λ (m : ℕ). all_to m f) (le_antisymm h k)

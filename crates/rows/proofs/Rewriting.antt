@@ -15,11 +15,11 @@ pub record Rewriting (n : ℕ) (P : ℕ → ℕ → ℕ → Type 0) (old new : L
   pub rest : (i : ℕ) → j ≤ i → get_or new i 0 ≡ get_or old i 0
 
 module _ {n : ℕ} {P : ℕ → ℕ → ℕ → Type 0} {old : List ℕ} where
-  pub rewriting-none : length old ≡ n → Rewriting n P old old 0
-  rewriting-none e = record { size = e; done = λ i h. absurd (omega arith); rest = λ i h. refl }
+  pub rewriting_none : length old ≡ n → Rewriting n P old old 0
+  rewriting_none e = record { size = e; done = λ i h. absurd (omega arith); rest = λ i h. refl }
 
-  pub rewriting-step : {new : List ℕ} {j v : ℕ} → j < n → Rewriting n P old new j → P j (get_or new j 0) v → Rewriting n P old (set new j v) (j + 1)
-  rewriting-step {new} {j} {v} h s p =
+  pub rewriting_step : {new : List ℕ} {j v : ℕ} → j < n → Rewriting n P old new j → P j (get_or new j 0) v → Rewriting n P old (set new j v) (j + 1)
+  rewriting_step {new} {j} {v} h s p =
       record {
         size = length-set new j v ∙ s.size;
         done = λ i k. at i k (ℕ_discrete i j);
@@ -33,5 +33,5 @@ module _ {n : ℕ} {P : ℕ → ℕ → ℕ → Type 0} {old : List ℕ} where
       at i k (yes q) = subst (λ m. P m (get_or old m 0) (get_or (set new j v) m 0)) (sym q) here
       at i k (no q) = subst (P i (get_or old i 0)) (sym (get_or-set_other new j i v 0 q)) (s.done i (omega arith))
 
-  pub rewriting-end : {new : List ℕ} {j : ℕ} → n ≤ j → Rewriting n P old new j → Rewritten n P old new
-  rewriting-end h s = record { size = s.size; at = λ i k. s.done i (omega arith) }
+  pub rewriting_end : {new : List ℕ} {j : ℕ} → n ≤ j → Rewriting n P old new j → Rewritten n P old new
+  rewriting_end h s = record { size = s.size; at = λ i k. s.done i (omega arith) }

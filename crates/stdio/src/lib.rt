@@ -1,16 +1,18 @@
 // Standard input and output: short writes, signals and waits are carried on with, and what failed is said in one line on standard error.
 // No contract can say what was read or written, nor what errno is.
+#![tactic(auto)]
+
 ghost use Rattle.std.specs.Prelude.{◌≡◌, true, length};
 ghost use Rattle.io.specs.Counts.{IsPrefixLen};
 ghost use Rattle.libc.specs.Io.{Status};
-ghost use Rattle.stdio.specs.Errors.{isPassing};
+ghost use Rattle.stdio.specs.Errors.{is_passing};
 
 use libc::types::timespec;
 use libc::{EAGAIN, EINTR, STDERR_FILENO, STDIN_FILENO, STDOUT_FILENO};
 
 // Whether a call that failed so is to be made again: a signal came, or it would have had to wait.
 fn again(error: i32) -> bool
-    ensures { result ≡ isPassing error }
+    ensures { result ≡ is_passing error }
 {
     if error == EINTR {
         return true;

@@ -11,14 +11,14 @@ use Rattle.model.specs.Lists.{up_to, keeping, distinct}
 use Rattle.model.specs.Claim.{R}
 use Rattle.model.proofs.RowFacts.{AllIn}
 use Rattle.model.proofs.ListLaws.{up_step}
-use Rattle.stock_level.specs.Notes.{member, noted, noteAll}
+use Rattle.stock_level.specs.Notes.{member, noted, note_all}
 
 abbrev differs : ℕ → ℕ → Bool
 differs x y = not (eqb x y)
 
-keeping-append : (test : ℕ → Bool) (xs ys : List ℕ) → keeping test (xs ++ ys) ≡ keeping test xs ++ keeping test ys
-keeping-append test [] ys = refl
-keeping-append test (x ∷ xs) ys = split (keeping-append test xs ys) (test x)
+keeping_append : (test : ℕ → Bool) (xs ys : List ℕ) → keeping test (xs ++ ys) ≡ keeping test xs ++ keeping test ys
+keeping_append test [] ys = refl
+keeping_append test (x ∷ xs) ys = split (keeping_append test xs ys) (test x)
   where
     split : keeping test (xs ++ ys) ≡ keeping test xs ++ keeping test ys
         → (t : Bool) → cond t (x ∷ keeping test (xs ++ ys)) (keeping test (xs ++ ys)) ≡ cond t (x ∷ keeping test xs) (keeping test xs) ++ keeping test ys
@@ -35,8 +35,8 @@ distinct_snoc (y ∷ ys) x = rw (distinct_snoc ys x) (split (member x ys) (eqb y
         ≡ cond (cond t true m) (distinct (y ∷ ys)) (distinct (y ∷ ys) ++ (x ∷ []))
     split true true e = refl
     split true false e = refl
-    split false true e = ap (λ (l : List ℕ). y ∷ l) (keeping-append (differs y) (distinct ys) (x ∷ []) ∙ rw e (append-nil (keeping (differs y) (distinct ys))))
-    split false false e = ap (λ (l : List ℕ). y ∷ l) (keeping-append (differs y) (distinct ys) (x ∷ []) ∙ rw e)
+    split false true e = ap (λ (l : List ℕ). y ∷ l) (keeping_append (differs y) (distinct ys) (x ∷ []) ∙ rw e (append-nil (keeping (differs y) (distinct ys))))
+    split false false e = ap (λ (l : List ℕ). y ∷ l) (keeping_append (differs y) (distinct ys) (x ∷ []) ∙ rw e)
 
 -- an entry that passes the test is kept
 member-keeping : (test : ℕ → Bool) (x : ℕ) (ys : List ℕ) → test x ≡ true → member x (keeping test ys) ≡ member x ys
@@ -68,49 +68,49 @@ module _ (test : ℕ → Bool) where
           → cond t (cond (member x (keeping test (distinct xs))) (keeping test (distinct xs)) (keeping test (distinct xs) ++ (x ∷ []))) (keeping test (distinct xs))
           ≡ keeping test (cond m (distinct xs) (distinct xs ++ (x ∷ [])))
       split true true e f = rw (member-keeping test x (distinct xs) e, member-distinct x xs, f)
-      split true false e f = rw (member-keeping test x (distinct xs) e, member-distinct x xs, f) (sym (keeping-append test (distinct xs) (x ∷ []) ∙ rw e))
+      split true false e f = rw (member-keeping test x (distinct xs) e, member-distinct x xs, f) (sym (keeping_append test (distinct xs) (x ∷ []) ∙ rw e))
       split false true e f = refl
-      split false false e f = sym (keeping-append test (distinct xs) (x ∷ []) ∙ rw e (append-nil (keeping test (distinct xs))))
+      split false false e f = sym (keeping_append test (distinct xs) (x ∷ []) ∙ rw e (append-nil (keeping test (distinct xs))))
 
-  note-after : (xs ys : List ℕ) → noteAll test (keeping test (distinct xs)) ys ≡ keeping test (distinct (xs ++ ys))
-  note-after xs [] = rw (append-nil xs)
-  note-after xs (y ∷ ys) = rw (noted_step xs y) (note-after (xs ++ (y ∷ [])) ys ∙ rw (append_assoc xs (y ∷ []) ys))
+  note_after : (xs ys : List ℕ) → note_all test (keeping test (distinct xs)) ys ≡ keeping test (distinct (xs ++ ys))
+  note_after xs [] = rw (append-nil xs)
+  note_after xs (y ∷ ys) = rw (noted_step xs y) (note_after (xs ++ (y ∷ [])) ys ∙ rw (append_assoc xs (y ∷ []) ys))
 
-  pub note-distinct : (ys : List ℕ) → noteAll test [] ys ≡ keeping test (distinct ys)
-  note-distinct ys = note-after [] ys
+  pub note_distinct : (ys : List ℕ) → note_all test [] ys ≡ keeping test (distinct ys)
+  note_distinct ys = note_after [] ys
 
-  pub note-append : (seen xs ys : List ℕ) → noteAll test seen (xs ++ ys) ≡ noteAll test (noteAll test seen xs) ys
-  note-append seen [] ys = refl
-  note-append seen (x ∷ xs) ys = note-append (noted test seen x) xs ys
+  pub note_append : (seen xs ys : List ℕ) → note_all test seen (xs ++ ys) ≡ note_all test (note_all test seen xs) ys
+  note_append seen [] ys = refl
+  note_append seen (x ∷ xs) ys = note_append (noted test seen x) xs ys
 
-  pub note-up : (seen : List ℕ) (n : ℕ) (f : ℕ → ℕ) → noteAll test seen (up_to (n + 1) f) ≡ noted test (noteAll test seen (up_to n f)) (f (n + 1))
-  note-up seen n f = ap (noteAll test seen) (up_step n f) ∙ note-append seen (up_to n f) (f (n + 1) ∷ [])
+  pub note_up : (seen : List ℕ) (n : ℕ) (f : ℕ → ℕ) → note_all test seen (up_to (n + 1) f) ≡ noted test (note_all test seen (up_to n f)) (f (n + 1))
+  note_up seen n f = ap (note_all test seen) (up_step n f) ∙ note_append seen (up_to n f) (f (n + 1) ∷ [])
 
 -- ── what holds of every entry ──
 module _ (P : ℕ → Type 0) where
-  pub in-append : (xs ys : List ℕ) → AllIn P xs → AllIn P ys → AllIn P (xs ++ ys)
-  in-append [] ys p q = q
-  in-append (x ∷ xs) ys p q = (p.0, in-append xs ys p.1 q)
+  pub in_append : (xs ys : List ℕ) → AllIn P xs → AllIn P ys → AllIn P (xs ++ ys)
+  in_append [] ys p q = q
+  in_append (x ∷ xs) ys p q = (p.0, in_append xs ys p.1 q)
 
-  pub in-up : (n : ℕ) (f : ℕ → ℕ) → ((j : ℕ) → R n j → P (f j)) → AllIn P (up_to n f)
+  pub in_up : (n : ℕ) (f : ℕ → ℕ) → ((j : ℕ) → R n j → P (f j)) → AllIn P (up_to n f)
   unfolding up_to
-  in-up zero f h = tt
-  in-up (suc n) f h =
-      in-append (up_to n f) (f (suc n) ∷ []) (in-up n f (λ j r. h j (record { lo = r.lo; hi = omega (arith, r.hi) }))) (h (suc n) (record { lo = omega arith; hi = omega arith }), tt)
+  in_up zero f h = tt
+  in_up (suc n) f h =
+      in_append (up_to n f) (f (suc n) ∷ []) (in_up n f (λ j r. h j (record { lo = r.lo; hi = omega (arith, r.hi) }))) (h (suc n) (record { lo = omega arith; hi = omega arith }), tt)
 
-  in-keeping : (test : ℕ → Bool) (xs : List ℕ) → AllIn P xs → AllIn P (keeping test xs)
-  in-keeping test [] p = tt
-  in-keeping test (x ∷ xs) p = go (test x) (in-keeping test xs p.1)
+  in_keeping : (test : ℕ → Bool) (xs : List ℕ) → AllIn P xs → AllIn P (keeping test xs)
+  in_keeping test [] p = tt
+  in_keeping test (x ∷ xs) p = go (test x) (in_keeping test xs p.1)
     where
       go : (t : Bool) → AllIn P (keeping test xs) → AllIn P (cond t (x ∷ keeping test xs) (keeping test xs))
       go true h = (p.0, h)
       go false h = h
 
-  pub in-distinct : (xs : List ℕ) → AllIn P xs → AllIn P (distinct xs)
-  in-distinct [] p = tt
-  in-distinct (x ∷ xs) p = (p.0, in-keeping (differs x) (distinct xs) (in-distinct xs p.1))
+  pub in_distinct : (xs : List ℕ) → AllIn P xs → AllIn P (distinct xs)
+  in_distinct [] p = tt
+  in_distinct (x ∷ xs) p = (p.0, in_keeping (differs x) (distinct xs) (in_distinct xs p.1))
 
 -- two tests that agree on every entry keep the same
-pub keeping-alike : (f g : ℕ → Bool) (xs : List ℕ) → AllIn (λ x. f x ≡ g x) xs → keeping f xs ≡ keeping g xs
-keeping-alike f g [] p = refl
-keeping-alike f g (x ∷ xs) p = rw (p.0, keeping-alike f g xs p.1)
+pub keeping_alike : (f g : ℕ → Bool) (xs : List ℕ) → AllIn (λ x. f x ≡ g x) xs → keeping f xs ≡ keeping g xs
+keeping_alike f g [] p = refl
+keeping_alike f g (x ∷ xs) p = rw (p.0, keeping_alike f g xs p.1)

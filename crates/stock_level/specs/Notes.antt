@@ -6,7 +6,7 @@ use Rattle.model.specs.declared.StockLevel.{StockLevel}
 use Rattle.model.specs.Numbers.{nat, cell}
 use Rattle.model.specs.Store.{from}
 use Rattle.model.specs.Rows.{line}
-use Rattle.model.specs.StockLevel.{lineItems}
+use Rattle.model.specs.StockLevel.{line_items}
 use Rattle.model.specs.Claim.{R}
 use Rattle.model.proofs.StockLevelFacts.{LevelAsked, LevelUsed}
 use Rattle.layout.specs.declared.Run.{Run}
@@ -20,22 +20,22 @@ member x (y ∷ ys) = cond (eqb y x) true (member x ys)
 abbrev pub noted : (ℕ → Bool) → List ℕ → ℕ → List ℕ
 noted test seen x = cond (test x) (cond (member x seen) seen (seen ++ (x ∷ []))) seen
 
-abbrev pub noteAll : (ℕ → Bool) → List ℕ → List ℕ → List ℕ
-noteAll test seen [] = seen
-noteAll test seen (x ∷ xs) = noteAll test (noted test seen x) xs
+abbrev pub note_all : (ℕ → Bool) → List ℕ → List ℕ → List ℕ
+note_all test seen [] = seen
+note_all test seen (x ∷ xs) = note_all test (noted test seen x) xs
 
 -- item i has fewer than the threshold on hand, by the stock rows that start at `stock`
-unfoldable pub lowAt : List ℤ → ℕ → ℕ → ℕ → Bool
-lowAt b stock threshold i = ltb (cell b (stock + 4 * (i - 1))) threshold
+unfoldable pub low_at : List ℤ → ℕ → ℕ → ℕ → Bool
+low_at b stock threshold i = ltb (cell b (stock + 4 * (i - 1))) threshold
 
 -- the item of line j, from 1, of the order at p
-abbrev pub itemIn : List ℤ → ℕ → ℕ → ℕ
-itemIn b p j = nat (line (from b p) j 0)
+abbrev pub item_in : List ℤ → ℕ → ℕ → ℕ
+item_in b p j = nat (line (from b p) j 0)
 
 -- the items of the first n orders of a run
 unfoldable pub items_in : List ℤ → Run → ℕ → List ℕ
 items_in b run zero = []
-items_in b run (suc n) = items_in b run n ++ lineItems (from b (row_in run n))
+items_in b run (suc n) = items_in b run n ++ line_items (from b (row_in run n))
 
 -- the stock row of item x is in the book
 pub record ItemReads (b : List ℤ) (stock x : ℕ) : Type 0 where
@@ -46,7 +46,7 @@ pub record ItemReads (b : List ℤ) (stock x : ℕ) : Type 0 where
 pub record OrderReads (b : List ℤ) (stock p : ℕ) : Type 0 where
   pub ends : p + 81 ≤ length b
   pub lines : nat (from b p 3) ≤ 15
-  pub items : (j : ℕ) → R (nat (from b p 3)) j → ItemReads b stock (itemIn b p j)
+  pub items : (j : ℕ) → R (nat (from b p 3)) j → ItemReads b stock (item_in b p j)
 
 -- a Stock-Level that is not refused
 pub record Ready (d : Dims) (b : List ℤ) (q : StockLevel) : Type 0 where

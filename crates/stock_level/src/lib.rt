@@ -1,20 +1,22 @@
+#![tactic(auto)]
+
 ghost use Rattle.std.specs.Prelude.{◌≡◌, [], ◌++◌, ℕ, ◌+◌, ◌*◌, ◌≤◌, ◌<◌, length, take};
 ghost use Rattle.model.specs.Tests.{fault};
 ghost use Rattle.model.specs.Store.{from};
-ghost use Rattle.model.specs.Answer.{refused, stockLevelSays};
-ghost use Rattle.model.specs.StockLevel.{levelAsked, levelUsed, lineItems, lowItems};
+ghost use Rattle.model.specs.Answer.{refused, stock_level_says};
+ghost use Rattle.model.specs.StockLevel.{level_asked, level_used, line_items, low_items};
 ghost use Rattle.model.specs.Claim.{R};
-ghost use Rattle.model.specs.Contracts.{StockLevelCall};
+ghost use Rattle.model.specs.Promises.{StockLevelCall};
 ghost use Rattle.layout.specs.Runs.{row_in};
 ghost use Rattle.rows.specs.Book.{Booked};
-ghost use Rattle.stock_level.specs.Notes.{member, noted, noteAll, lowAt, items_in, ItemReads, OrderReads, Ready};
+ghost use Rattle.stock_level.specs.Notes.{member, noted, note_all, low_at, items_in, ItemReads, OrderReads, Ready};
 
 use layout::{Head, Run};
 use model::{Dims, Refusal, StockLevel, StockLevelAnswer, StockLevelFigures, StockLevelOutcome};
 
 // 4, 5, 8: what the request decides.
 fn asked(d: Dims, q: StockLevel) -> Refusal
-    ensures { result ≡ fault (levelAsked d q) }
+    ensures { result ≡ fault (level_asked d q) }
 {
     if !cells::within(q.warehouse, 1, d.warehouses) {
         return cells::refused(4);
@@ -31,7 +33,7 @@ fn asked(d: Dims, q: StockLevel) -> Refusal
 // 9: what the rows decide.
 fn used(b: &[i64], d: Dims, q: StockLevel) -> Refusal
     requires { Booked d b.now × (R d.warehouses q.warehouse × R 10 q.district) }
-    ensures { result ≡ fault (levelUsed d b.now q) }
+    ensures { result ≡ fault (level_used d b.now q) }
 {
     if !rows::district_used(b, d, q.warehouse, q.district) {
         return cells::refused(9);
@@ -48,7 +50,7 @@ fn used(b: &[i64], d: Dims, q: StockLevel) -> Refusal
 // The first refusal of what request and rows decide; number 0 where there is none.
 fn fault_in(b: &[i64], d: Dims, q: StockLevel) -> Refusal
     requires { Booked d b.now }
-    ensures { result ≡ fault (levelAsked d q ++ levelUsed d b.now q) }
+    ensures { result ≡ fault (level_asked d q ++ level_used d b.now q) }
 {
     let first = asked(d, q);
     if first.number == 0 {
@@ -75,7 +77,7 @@ fn is_among(list: &[u64], n: u64, x: u64) -> bool
 // An item put at the end of the first n of a list, where it is low and not among them; the new count. The stock rows start at `stock`.
 fn note_item(b: &[i64], stock: u64, threshold: u64, list: &mut [u64], n: u64, x: u64) -> u64
     requires { ItemReads b.now stock x × (n < length list.old) }
-    ensures { (result ≤ n + 1) × (take result list.new ≡ noted (lowAt b.now stock threshold) (take n list.old) x) }
+    ensures { (result ≤ n + 1) × (take result list.new ≡ noted (low_at b.now stock threshold) (take n list.old) x) }
 {
     if cells::get(b, stock + 4 * (x - 1)) < threshold {
         if is_among(list, n, x) {
@@ -90,7 +92,7 @@ fn note_item(b: &[i64], stock: u64, threshold: u64, list: &mut [u64], n: u64, x:
 // The items on the lines in use of the order at p noted.
 fn note_order(b: &[i64], stock: u64, threshold: u64, list: &mut [u64], n: u64, p: u64) -> u64
     requires { OrderReads b.now stock p × (n + 15 ≤ length list.old) }
-    ensures { (result ≤ n + 15) × (take result list.new ≡ noteAll (lowAt b.now stock threshold) (take n list.old) (lineItems (from b.now p))) }
+    ensures { (result ≤ n + 15) × (take result list.new ≡ note_all (low_at b.now stock threshold) (take n list.old) (line_items (from b.now p))) }
 {
     let lines = cells::get(b, p + 3);
     let mut k = n;
@@ -107,7 +109,7 @@ fn note_order(b: &[i64], stock: u64, threshold: u64, list: &mut [u64], n: u64, p
 fn note_run(b: &[i64], stock: u64, threshold: u64, list: &mut [u64], run: Run) -> u64
     requires { ((i : ℕ) → i < run.count → OrderReads b.now stock (row_in run i)) × (15 * run.count ≤ length list.old) }
     ensures { (result ≤ 15 * run.count)
-        × (take result list.new ≡ noteAll (lowAt b.now stock threshold) [] (items_in b.now run run.count)) }
+        × (take result list.new ≡ note_all (low_at b.now stock threshold) [] (items_in b.now run run.count)) }
 {
     let n = run.count;
     let mut k = 0;
@@ -123,7 +125,7 @@ fn note_run(b: &[i64], stock: u64, threshold: u64, list: &mut [u64], run: Run) -
 // The distinct items of the window whose on hand is below the threshold, counted.
 fn low_items(b: &[i64], d: Dims, q: StockLevel) -> u64
     requires { Ready d b.now q }
-    ensures { result ≡ lowItems d b.now q }
+    ensures { result ≡ low_items d b.now q }
 {
     let next = rows::next_order(b, d, q.warehouse, q.district);
     let first = rows::window_first(next);
@@ -136,7 +138,7 @@ fn low_items(b: &[i64], d: Dims, q: StockLevel) -> u64
 
 // A Stock-Level that is refused.
 fn turned_away(refusal: Refusal) -> StockLevelAnswer
-    ensures { stockLevelSays result.outcome ≡ refused refusal }
+    ensures { stock_level_says result.outcome ≡ refused refusal }
 {
     let outcome = StockLevelOutcome::Refused(refusal);
     StockLevelAnswer { outcome }

@@ -16,26 +16,26 @@ use borrow.Author.Tests.{le-ltb, ltb-true}
 use mir.Syntax.{w64}
 use mir.Val.{SFits, Fits, to_z, of_z}
 use mir.Facts.{to_z-of_z}
-use Rattle.model.specs.Text.{decimal, signed, signeds, positives, tabbed, lineText}
-use Rattle.model.proofs.DecimalLaws.{dec-few}
-use Rattle.model.proofs.TextLaws.{tabbed-append}
+use Rattle.model.specs.Text.{decimal, signed, signeds, positives, tabbed, line_text}
+use Rattle.model.proofs.DecimalLaws.{dec_few}
+use Rattle.model.proofs.TextLaws.{tabbed_append}
 use Rattle.text.specs.Writing.{Wrote}
 
 -- ── stores after stores ──
-pub sets-append : (l : List ℕ) (i : ℕ) (xs ys : List ℕ) → sets l i (xs ++ ys) ≡ sets (sets l i xs) (i + length xs) ys
-sets-append l i [] ys = rw add-zero
-sets-append l i (x ∷ xs) ys = rw (sets-append (set l i x) (suc i) xs ys, add-suc, suc-add)
+pub sets_append : (l : List ℕ) (i : ℕ) (xs ys : List ℕ) → sets l i (xs ++ ys) ≡ sets (sets l i xs) (i + length xs) ys
+sets_append l i [] ys = rw add-zero
+sets_append l i (x ∷ xs) ys = rw (sets_append (set l i x) (suc i) xs ys, add-suc, suc-add)
 
 pub wrote_then : (l m k : List ℕ) (at p q : ℕ) (xs ys : List ℕ) → Wrote l m at p xs → Wrote m k p q ys → Wrote l k at q (xs ++ ys)
 wrote_then l m k at p q xs ys a b =
     record {
-      same = b.same ∙ ap (λ (x : List ℕ). sets x p ys) a.same ∙ ap (λ (x : ℕ). sets (sets l at xs) x ys) a.place ∙ sym (sets-append l at xs ys);
+      same = b.same ∙ ap (λ (x : List ℕ). sets x p ys) a.same ∙ ap (λ (x : ℕ). sets (sets l at xs) x ys) a.place ∙ sym (sets_append l at xs ys);
       place = omega (arith, a.place, b.place, length-append xs ys);
     }
 
 -- a byte, and what is written from the next place on
-pub byte-first : (l m : List ℕ) (at next p x : ℕ) (xs : List ℕ) → next ≡ suc at → Wrote (set l at x) m next p xs → Wrote l m at p (x ∷ xs)
-byte-first l m at next p x xs e w = record { same = w.same ∙ ap (λ (k : ℕ). sets (set l at x) k xs) e; place = omega (arith, w.place, e) }
+pub byte_first : (l m : List ℕ) (at next p x : ℕ) (xs : List ℕ) → next ≡ suc at → Wrote (set l at x) m next p xs → Wrote l m at p (x ∷ xs)
+byte_first l m at next p x xs e w = record { same = w.same ∙ ap (λ (k : ℕ). sets (set l at x) k xs) e; place = omega (arith, w.place, e) }
 
 -- bytes stored from the front, as they stand before the rest
 pub at_front : (l m xs : List ℕ) (n : ℕ) → Wrote l m 0 n xs → length xs ≤ length l → m ≡ xs ++ drop (length xs) l
@@ -51,14 +51,14 @@ no_field l at = record { same = refl; place = sym (add-zero at) }
 
 pub one_field : (l m : List ℕ) (at p : ℕ) (f : List ℕ) → Wrote (set l at 9) m (at + 1) p f → Wrote l m at p (tabbed (f ∷ []))
 unfolding tabbed
-one_field l m at p f w = rw (append-nil f) (byte-first l m at (at + 1) p 9 f (add-one at) w)
+one_field l m at p f w = rw (append-nil f) (byte_first l m at (at + 1) p 9 f (add-one at) w)
 
 -- a field that a mark begins
-pub marked-field : (l m : List ℕ) (at p x : ℕ) (f : List ℕ) → Wrote (set (set l at 9) (at + 1) x) m (at + 2) p f → Wrote l m at p (tabbed ((x ∷ f) ∷ []))
-marked-field l m at p x f w = one_field l m at p (x ∷ f) (byte-first (set l at 9) m (at + 1) (at + 2) p x f (omega arith) w)
+pub marked_field : (l m : List ℕ) (at p x : ℕ) (f : List ℕ) → Wrote (set (set l at 9) (at + 1) x) m (at + 2) p f → Wrote l m at p (tabbed ((x ∷ f) ∷ []))
+marked_field l m at p x f w = one_field l m at p (x ∷ f) (byte_first (set l at 9) m (at + 1) (at + 2) p x f (omega arith) w)
 
-pub fields-then : (l m k : List ℕ) (at p q : ℕ) (fs gs : List (List ℕ)) → Wrote l m at p (tabbed fs) → Wrote m k p q (tabbed gs) → Wrote l k at q (tabbed (fs ++ gs))
-fields-then l m k at p q fs gs a b = rw (tabbed-append fs gs) (wrote_then l m k at p q (tabbed fs) (tabbed gs) a b)
+pub fields_then : (l m k : List ℕ) (at p q : ℕ) (fs gs : List (List ℕ)) → Wrote l m at p (tabbed fs) → Wrote m k p q (tabbed gs) → Wrote l k at q (tabbed (fs ++ gs))
+fields_then l m k at p q fs gs a b = rw (tabbed_append fs gs) (wrote_then l m k at p q (tabbed fs) (tabbed gs) a b)
 
 -- numbers of a list, one by one
 module _ (l m : List ℕ) (at p i : ℕ) (zs : List ℤ) where
@@ -68,19 +68,19 @@ module _ (l m : List ℕ) (at p i : ℕ) (zs : List ℤ) where
       let z = get_or zs i (pos 0) in
       let e : signeds (take (i + 1) zs) ≡ signeds (take i zs) ++ (signed z ∷ []) =
       ap (λ (j : ℕ). signeds (take j zs)) (add-one i) ∙ ap signeds (take-suc zs i (pos 0) h) ∙ map-append signed (take i zs) (z ∷ []) in
-      subst (λ (fs : List (List ℕ)). Wrote l k at q (tabbed fs)) (sym e) (fields-then l m k at p q (signeds (take i zs)) (signed z ∷ []) a b)
+      subst (λ (fs : List (List ℕ)). Wrote l k at q (tabbed fs)) (sym e) (fields_then l m k at p q (signeds (take i zs)) (signed z ∷ []) a b)
 
   pub number-all : length zs ≤ i → Wrote l m at p (tabbed (signeds (take i zs))) → Wrote l m at p (tabbed (signeds zs))
   number-all h a = subst (λ (ys : List ℤ). Wrote l m at p (tabbed (signeds ys))) (take_all i zs h) a
 
-pub positive-at : (l m : List ℕ) (at p i : ℕ) (ns : List ℕ) → Wrote l m at p (tabbed (decimal (get_or ns i 0) ∷ [])) → Wrote l m at p (tabbed (signed (get_or (positives ns) i (pos 0)) ∷ []))
-positive-at l m at p i ns a = subst (λ (z : ℤ). Wrote l m at p (tabbed (signed z ∷ []))) (sym (get_or-map pos ns i 0)) a
+pub positive_at : (l m : List ℕ) (at p i : ℕ) (ns : List ℕ) → Wrote l m at p (tabbed (decimal (get_or ns i 0) ∷ [])) → Wrote l m at p (tabbed (signed (get_or (positives ns) i (pos 0)) ∷ []))
+positive_at l m at p i ns a = subst (λ (z : ℤ). Wrote l m at p (tabbed (signed z ∷ []))) (sym (get_or-map pos ns i 0)) a
 
 -- ── a whole line, by its first byte, its fields and its byte 10 ──
-pub whole-line : (l m : List ℕ) (p x : ℕ) (fs : List (List ℕ)) → Wrote (set l 0 x) m 1 p (tabbed fs) → Wrote l (set m p 10) 0 (p + 1) (lineText ((x ∷ []) ∷ fs))
-unfolding lineText
+pub whole-line : (l m : List ℕ) (p x : ℕ) (fs : List (List ℕ)) → Wrote (set l 0 x) m 1 p (tabbed fs) → Wrote l (set m p 10) 0 (p + 1) (line_text ((x ∷ []) ∷ fs))
+unfolding line_text
 whole-line l m p x fs w =
-    wrote_then l m (set m p 10) 0 p (p + 1) (x ∷ tabbed fs) (10 ∷ []) (byte-first l m 0 1 p x (tabbed fs) refl w) (record { same = refl; place = refl })
+    wrote_then l m (set m p 10) 0 p (p + 1) (x ∷ tabbed fs) (10 ∷ []) (byte_first l m 0 1 p x (tabbed fs) refl w) (record { same = refl; place = refl })
 
 -- ── a negative number without its sign ──
 less_one : (n : ℕ) → negsuc 0 -ℤ negsuc n ≡ pos n
@@ -111,12 +111,12 @@ pub kept : (z : ℤ) → SFits w64 z → nat_abs (to_z w64 (of_z w64 z)) ≡ nat
 kept z f = rw (to_z-of_z f)
 
 -- without its sign it has at most nineteen digits
-magnitude-fits : (z : ℤ) → SFits w64 z → nat_abs z < 10000000000000000000
-magnitude-fits (pos n) f = omega (arith, f.sfits)
-magnitude-fits (negsuc n) f = omega (arith, f.sfits)
+magnitude_fits : (z : ℤ) → SFits w64 z → nat_abs z < 10000000000000000000
+magnitude_fits (pos n) f = omega (arith, f.sfits)
+magnitude_fits (negsuc n) f = omega (arith, f.sfits)
 
-pub magnitude-few : (z : ℤ) (n : ℕ) → SFits w64 z → n ≡ nat_abs z → length (decimal n) ≤ 19
-magnitude-few z n f e = rw e (dec-few 18 (nat_abs z) (omega arith) (magnitude-fits z f))
+pub magnitude_few : (z : ℤ) (n : ℕ) → SFits w64 z → n ≡ nat_abs z → length (decimal n) ≤ 19
+magnitude_few z n f e = rw e (dec_few 18 (nat_abs z) (omega arith) (magnitude_fits z f))
 
 -- a signed number, by its sign and digits
 plain : (z : ℤ) → lt_z z (pos 0) ≡ false → decimal (nat_abs z) ≡ signed z
@@ -128,10 +128,10 @@ minus (pos n) e = absurd (omega (arith, ltb-true n 0 e))
 minus (negsuc n) e = refl
 
 module _ (l m : List ℕ) (at p n : ℕ) (z : ℤ) (e : n ≡ nat_abs z) where
-  pub put-plain : lt_z z (pos 0) ≡ false → Wrote (set l at 9) m (at + 1) p (decimal n) → Wrote l m at p (tabbed (signed z ∷ []))
-  put-plain t w = subst (λ (f : List ℕ). Wrote l m at p (tabbed (f ∷ []))) (ap decimal e ∙ plain z t) (one_field l m at p (decimal n) w)
+  pub put_plain : lt_z z (pos 0) ≡ false → Wrote (set l at 9) m (at + 1) p (decimal n) → Wrote l m at p (tabbed (signed z ∷ []))
+  put_plain t w = subst (λ (f : List ℕ). Wrote l m at p (tabbed (f ∷ []))) (ap decimal e ∙ plain z t) (one_field l m at p (decimal n) w)
 
-  pub put-minus : lt_z z (pos 0) ≡ true → Wrote (set (set l at 9) (at + 1) 45) m (at + 2) p (decimal n) → Wrote l m at p (tabbed (signed z ∷ []))
-  put-minus t w =
+  pub put_minus : lt_z z (pos 0) ≡ true → Wrote (set (set l at 9) (at + 1) 45) m (at + 2) p (decimal n) → Wrote l m at p (tabbed (signed z ∷ []))
+  put_minus t w =
       subst (λ (f : List ℕ). Wrote l m at p (tabbed (f ∷ []))) (ap (λ (j : ℕ). 45 ∷ decimal j) e ∙ minus z t)
-      (marked-field l m at p 45 (decimal n) w)
+      (marked_field l m at p 45 (decimal n) w)

@@ -1,42 +1,42 @@
 -- A text's fields as code walks them: by the position where a field starts.
 -- Assumes nothing.
 use Rattle.std.specs.Prelude.{◌≡◌, Bool, true, false, cond, List, [], ◌∷◌, ℕ, ◌+◌, ◌-◌, ◌≤◌, leb, length, take, drop}
-use Rattle.model.specs.Text.{is_number, value_of, partedBy}
+use Rattle.model.specs.Text.{is_number, value_of, parted_by}
 use Rattle.text.specs.declared.Number.{Number}
 use Rattle.text.specs.declared.Number.TheVariants as Number
 use Rattle.text.specs.declared.Step.{Step}
 use Rattle.text.specs.declared.Step.TheVariants as Step
 
 -- the parts between bytes x, and the fields between tabs, from a position on; the position after the last is one past the end
-unfoldable pub partsFrom : ℕ → List ℕ → ℕ → List (List ℕ)
-partsFrom x s at = cond (leb at (length s)) (partedBy x (drop at s)) []
+unfoldable pub parts_from : ℕ → List ℕ → ℕ → List (List ℕ)
+parts_from x s at = cond (leb at (length s)) (parted_by x (drop at s)) []
 
-abbrev pub fieldsFrom : List ℕ → ℕ → List (List ℕ)
-fieldsFrom s at = partsFrom 9 s at
+abbrev pub fields_from : List ℕ → ℕ → List (List ℕ)
+fields_from s at = parts_from 9 s at
 
 -- the part that starts at a position, its end, and the parts after it
 pub record FieldEnd (x : ℕ) (s : List ℕ) (at e : ℕ) : Type 0 where
   pub from : at ≤ e
   pub to : e ≤ length s
-  pub parts : partsFrom x s at ≡ take (e - at) (drop at s) ∷ partsFrom x s (e + 1)
+  pub parts : parts_from x s at ≡ take (e - at) (drop at s) ∷ parts_from x s (e + 1)
 
 -- the number that a field holds
-unfoldable pub numberRead : List ℕ → Number
-numberRead f = cond (is_number f) (Number.Value (value_of f)) Number.Bad
+unfoldable pub number_read : List ℕ → Number
+number_read f = cond (is_number f) (Number.Value (value_of f)) Number.Bad
 
 -- the first of some fields is a number
-abbrev pub hasNumber : List (List ℕ) → Bool
-hasNumber [] = false
-hasNumber (f ∷ fs) = is_number f
+abbrev pub has_number : List (List ℕ) → Bool
+has_number [] = false
+has_number (f ∷ fs) = is_number f
 
 -- a field that is a number, and where the next field starts
 pub record Stepped (s : List ℕ) (at v next : ℕ) : Type 0 where
   pub first : List ℕ
-  pub parts : fieldsFrom s at ≡ first ∷ fieldsFrom s next
+  pub parts : fields_from s at ≡ first ∷ fields_from s next
   pub number : is_number first ≡ true
   pub value : value_of first ≡ v
   pub within : next ≤ length s + 1
 
 abbrev pub StepSays : List ℕ → ℕ → Step → Type 0
 StepSays s at (Step.Value v next) = Stepped s at v next
-StepSays s at Step.Bad = hasNumber (fieldsFrom s at) ≡ false
+StepSays s at Step.Bad = has_number (fields_from s at) ≡ false

@@ -1,8 +1,10 @@
 // Numbers in decimal digits and fields parted by tabs: written from a place on, and read.
+#![tactic(auto)]
+
 ghost use Rattle.std.specs.Prelude.{◌≡◌, [], ◌∷◌, ◌+◌, ◌≤◌, ◌<◌, nat_abs, length};
-ghost use Rattle.model.specs.Text.{isDigit, decimal, signed, signeds, positives, tabbed, lineText};
+ghost use Rattle.model.specs.Text.{is_digit, decimal, signed, signeds, positives, tabbed, line_text};
 ghost use Rattle.text.specs.Writing.{Wrote};
-ghost use Rattle.text.specs.Fields.{FieldEnd, numberRead, StepSays};
+ghost use Rattle.text.specs.Fields.{FieldEnd, number_read, StepSays};
 
 // What a field holds: a number, or none.
 #[derive(Drop)]
@@ -100,7 +102,7 @@ pub fn put_ten(line: &mut [u8], at: usize, numbers: [u64; 10]) -> usize
 // A line of a letter and three numbers, from the front.
 pub fn three_line(line: &mut [u8], x: u8, a: u64, b: u64, c: u64) -> usize
     requires { 65 ≤ length line.old }
-    ensures { Wrote line.old line.new 0 result (lineText ((x ∷ []) ∷ decimal a ∷ decimal b ∷ decimal c ∷ [])) × (result ≤ 65) }
+    ensures { Wrote line.old line.new 0 result (line_text ((x ∷ []) ∷ decimal a ∷ decimal b ∷ decimal c ∷ [])) × (result ≤ 65) }
 {
     line[0] = x;
     let p = put_three(line, 1, a, b, c);
@@ -132,14 +134,14 @@ pub fn wide(x: u8) -> u64
 
 // A byte is a digit.
 fn is_digit(x: u64) -> bool
-    ensures { result ≡ isDigit x }
+    ensures { result ≡ is_digit x }
 {
     (48 <= x) & (x <= 57)
 }
 
 // The number that a field holds.
 pub fn number_of(f: &[u8]) -> Number
-    ensures { result ≡ numberRead f.now }
+    ensures { result ≡ number_read f.now }
 {
     let n = f.len();
     if n < 1 {

@@ -5,13 +5,13 @@ use native.Mathlib.Nat.{mod-eq-sub-mod}
 use native.Mathlib.Decide.{dec_lt}
 use lib.Bits.{bit_or}
 use Rattle.model.specs.declared.Dims.{Dims}
-use Rattle.model.specs.Tests.{every, allTo}
+use Rattle.model.specs.Tests.{every, all_to}
 use Rattle.model.specs.Numbers.{cell}
-use Rattle.model.specs.TopUp.{marginOf, liftOf, rowTests, row_ok, topupOk}
+use Rattle.model.specs.TopUp.{margin_of, lift_of, row_tests, row_ok, topup_ok}
 use Rattle.model.specs.Claim.{R}
 use Rattle.model.proofs.RuleLaws.{Tabled}
 use Rattle.model.proofs.TestLaws.{and_left, and_right, and_both, every-each, each-every, all_none, all-step}
-use Rattle.cells.proofs.Ors.{below, or-below, sorted, same_truth}
+use Rattle.cells.proofs.Ors.{below, or_below, sorted, same_truth}
 
 -- a number whose bits are x is in range
 small : (x top : ℕ) → top < 2 ^ 63 → cond (below x) x (2 ^ 63) ≤ top → cond (below x) x (2 ^ 63) ≡ x
@@ -32,24 +32,24 @@ module _ (m l o s a b : ℕ) (fits : l < 2 ^ 64) (o_is : o ≡ (l + 184467440737
   under : l < 10 → o ≡ l + 18446744073709551606
   under h = o_is ∙ mod-eq_of_lt (omega arith)
 
-  raised-over : o < 2 ^ 63 → a ≡ o + 9223372036854765818
-  raised-over h = a-is ∙ mod-eq_of_lt (omega arith)
+  raised_over : o < 2 ^ 63 → a ≡ o + 9223372036854765818
+  raised_over h = a-is ∙ mod-eq_of_lt (omega arith)
 
-  with-margin : m < 2 ^ 63 → o < 2 ^ 63 → s ≡ m + o
-  with-margin h k = s-is ∙ mod-eq_of_lt (omega arith)
+  with_margin : m < 2 ^ 63 → o < 2 ^ 63 → s ≡ m + o
+  with_margin h k = s-is ∙ mod-eq_of_lt (omega arith)
 
   raised_both : m < 2 ^ 63 → o ≤ 9989 → b ≡ m + o + 9223372036854765817
-  raised_both h k = b-is ∙ ap (λ (x : ℕ). (x + 9223372036854765817) % 2 ^ 64) (with-margin h (omega arith)) ∙ mod-eq_of_lt (omega arith)
+  raised_both h k = b-is ∙ ap (λ (x : ℕ). (x + 9223372036854765817) % 2 ^ 64) (with_margin h (omega arith)) ∙ mod-eq_of_lt (omega arith)
 
   ten : o < 2 ^ 63 → Dec (l < 10) → 10 ≤ l
   ten h (yes k) = absurd (omega (arith, under k))
   ten h (no k) = omega arith
 
-  row_is : ((below m && below a) && (below o && below b)) ≡ every (rowTests (cond (below m) m (2 ^ 63)) (cond (below l) l (2 ^ 63)))
-  unfolding rowTests
+  row_is : ((below m && below a) && (below o && below b)) ≡ every (row_tests (cond (below m) m (2 ^ 63)) (cond (below l) l (2 ^ 63)))
+  unfolding row_tests
   row_is = same_truth _ _ to back
     where
-      to : ((below m && below a) && (below o && below b)) ≡ true → every (rowTests (cond (below m) m (2 ^ 63)) (cond (below l) l (2 ^ 63))) ≡ true
+      to : ((below m && below a) && (below o && below b)) ≡ true → every (row_tests (cond (below m) m (2 ^ 63)) (cond (below l) l (2 ^ 63))) ≡ true
       to e =
           let f = and_left (below m && below a) (below o && below b) e in
           let g = and_right (below m && below a) (below o && below b) e in
@@ -58,17 +58,17 @@ module _ (m l o s a b : ℕ) (fits : l < 2 ^ 64) (o_is : o ≡ (l + 184467440737
           let ho = ltb-true o (2 ^ 63) (and_left (below o) (below b) g) in
           let ha = ltb-true a (2 ^ 63) (and_right (below m) (below a) f) in
           let hb = ltb-true b (2 ^ 63) (and_right (below o) (below b) g) in
-          let ho' : o ≤ 9989 = omega (arith, raised-over ho) in
+          let ho' : o ≤ 9989 = omega (arith, raised_over ho) in
           let hs : m + o ≤ 9990 = omega (arith, raised_both hm ho') in
           let low : 10 ≤ l = ten ho (dec_lt l 10) in
           let hl : o ≡ l - 10 = over low in
           let el : below l ≡ true = lt-ltb l (2 ^ 63) (omega arith) in
           rw (em, el)
-          (each-every (rowTests m l) (le-leb m 9990 (omega arith), (each-every (leb 10 l ∷ leb l 9999 ∷ []) (le-leb 10 l low, (le-leb l 9999 (omega arith), tt)), (le-leb (m + l) 10000 (omega arith), tt))))
+          (each-every (row_tests m l) (le-leb m 9990 (omega arith), (each-every (leb 10 l ∷ leb l 9999 ∷ []) (le-leb 10 l low, (le-leb l 9999 (omega arith), tt)), (le-leb (m + l) 10000 (omega arith), tt))))
 
-      back : every (rowTests (cond (below m) m (2 ^ 63)) (cond (below l) l (2 ^ 63))) ≡ true → ((below m && below a) && (below o && below b)) ≡ true
+      back : every (row_tests (cond (below m) m (2 ^ 63)) (cond (below l) l (2 ^ 63))) ≡ true → ((below m && below a) && (below o && below b)) ≡ true
       back e =
-          let h = every-each (rowTests (cond (below m) m (2 ^ 63)) (cond (below l) l (2 ^ 63))) e in
+          let h = every-each (row_tests (cond (below m) m (2 ^ 63)) (cond (below l) l (2 ^ 63))) e in
           let g = every-each (leb 10 (cond (below l) l (2 ^ 63)) ∷ leb (cond (below l) l (2 ^ 63)) 9999 ∷ []) h.1.0 in
           let km = small m 9990 (omega arith) (leb-true _ _ h.0) in
           let kl = small l 9999 (omega arith) (leb-true _ _ g.1.0) in
@@ -77,14 +77,14 @@ module _ (m l o s a b : ℕ) (fits : l < 2 ^ 64) (o_is : o ≡ (l + 184467440737
           let most : m + l ≤ 10000 = rw (← km, ← kl) (leb-true _ _ h.1.1.0) in
           let ho : o ≡ l - 10 = over low in
           and_both (below m && below a) (below o && below b)
-          (and_both (below m) (below a) (lt-ltb m (2 ^ 63) (omega arith)) (lt-ltb a (2 ^ 63) (omega (arith, raised-over (omega arith)))))
+          (and_both (below m) (below a) (lt-ltb m (2 ^ 63) (omega arith)) (lt-ltb a (2 ^ 63) (omega (arith, raised_over (omega arith)))))
           (and_both (below o) (below b) (lt-ltb o (2 ^ 63) (omega arith)) (lt-ltb b (2 ^ 63) (omega (arith, raised_both (omega arith) (omega arith)))))
 
 -- ── the rows in turn ──
 module _ (topup : List ℤ) where
   -- what the first i rows have given
   abbrev pub Kept : ℕ → ℕ → ℕ → Type 0
-  Kept low high i = (below low && below high) ≡ allTo i (row_ok topup)
+  Kept low high i = (below low && below high) ≡ all_to i (row_ok topup)
 
   pub none_kept : Kept 0 0 0
   none_kept = sym (all_none (row_ok topup))
@@ -92,38 +92,38 @@ module _ (topup : List ℤ) where
   pub kept_step : (low high i m l o s a b : ℕ) → l < 2 ^ 64 → cell topup (2 * i) ≡ cond (below m) m (2 ^ 63) → cell topup (2 * i + 1) ≡ cond (below l) l (2 ^ 63)
       → o ≡ (l + 18446744073709551606) % 2 ^ 64 → s ≡ (m + o) % 2 ^ 64 → a ≡ (o + 9223372036854765818) % 2 ^ 64 → b ≡ (s + 9223372036854765817) % 2 ^ 64
       → Kept low high i → Kept (bit_or (bit_or low m) o) (bit_or (bit_or high a) b) (i + 1)
-  unfolding row_ok marginOf liftOf
+  unfolding row_ok margin_of lift_of
   kept_step low high i m l o s a b fits em el o_is s-is a-is b-is e =
       let p : 2 * (i + 1 - 1) ≡ 2 * i = omega arith in
       let row : ((below m && below a) && (below o && below b)) ≡ row_ok topup (i + 1) =
       row_is m l o s a b fits o_is s-is a-is b-is ∙ rw (← em, ← el, p) in
-      rw (or-below (bit_or low m) o, or-below low m, or-below (bit_or high a) b, or-below high a, all-step (row_ok topup) i, ← e, ← row)
+      rw (or_below (bit_or low m) o, or_below low m, or_below (bit_or high a) b, or_below high a, all-step (row_ok topup) i, ← e, ← row)
       (sorted (below low) (below high) (below m) (below a) (below o) (below b))
 
 -- ── an item's two numbers ──
 module _ (d : Dims) (topup : List ℤ) (t : Tabled d topup) (i : ℕ) (r : R d.items i) where
-  pub margin-held : (2 * (i - 1) < length topup) × (cell topup (2 * (i - 1)) < 2 ^ 63)
-  unfolding marginOf
-  margin-held = (omega (arith, t.long, r.lo, r.hi), omega (arith, (t.each i r).both))
+  pub margin_held : (2 * (i - 1) < length topup) × (cell topup (2 * (i - 1)) < 2 ^ 63)
+  unfolding margin_of
+  margin_held = (omega (arith, t.long, r.lo, r.hi), omega (arith, (t.each i r).both))
 
-  pub lift-held : (2 * (i - 1) + 1 < length topup) × (cell topup (2 * (i - 1) + 1) < 2 ^ 63)
-  unfolding liftOf
-  lift-held = (omega (arith, t.long, r.lo, r.hi), omega (arith, (t.each i r).both))
+  pub lift_held : (2 * (i - 1) + 1 < length topup) × (cell topup (2 * (i - 1) + 1) < 2 ^ 63)
+  unfolding lift_of
+  lift_held = (omega (arith, t.long, r.lo, r.hi), omega (arith, (t.each i r).both))
 
 module _ (topup : List ℤ) (i : ℕ) {v : ℕ} where
-  pub margin-read : v ≡ cell topup (2 * (i - 1)) → v ≡ marginOf topup i
-  unfolding marginOf
-  margin-read e = e
+  pub margin_read : v ≡ cell topup (2 * (i - 1)) → v ≡ margin_of topup i
+  unfolding margin_of
+  margin_read e = e
 
-  pub lift-read : v ≡ cell topup (2 * (i - 1) + 1) → v ≡ liftOf topup i
-  unfolding liftOf
-  lift-read e = e
+  pub lift_read : v ≡ cell topup (2 * (i - 1) + 1) → v ≡ lift_of topup i
+  unfolding lift_of
+  lift_read e = e
 
 -- ── 17 ──
-pub table_is : (d : Dims) (topup : List ℤ) {t : Bool} → length topup ≡ 2 * d.items → t ≡ allTo d.items (row_ok topup) → t ≡ topupOk d topup
-unfolding topupOk
+pub table_is : (d : Dims) (topup : List ℤ) {t : Bool} → length topup ≡ 2 * d.items → t ≡ all_to d.items (row_ok topup) → t ≡ topup_ok d topup
+unfolding topup_ok
 table_is d topup e h = h ∙ rw (eq-eqb (length topup) (2 * d.items) e)
 
-pub table-short : (d : Dims) (topup : List ℤ) → length topup ≢ 2 * d.items → false ≡ topupOk d topup
-unfolding topupOk
-table-short d topup e = rw (ne_eqb (length topup) (2 * d.items) e)
+pub table_short : (d : Dims) (topup : List ℤ) → length topup ≢ 2 * d.items → false ≡ topup_ok d topup
+unfolding topup_ok
+table_short d topup e = rw (ne_eqb (length topup) (2 * d.items) e)

@@ -1,7 +1,9 @@
 // The top-up table lent beside the book: refusal 17's pass over its rows, and an item's margin and lift.
+#![tactic(auto)]
+
 ghost use Rattle.std.specs.Prelude.{◌≡◌, ◌*◌, ◌≤◌, length};
-ghost use Rattle.model.specs.Tests.{allTo};
-ghost use Rattle.model.specs.TopUp.{marginOf, liftOf, row_ok, topupOk};
+ghost use Rattle.model.specs.Tests.{all_to};
+ghost use Rattle.model.specs.TopUp.{margin_of, lift_of, row_ok, topup_ok};
 ghost use Rattle.model.specs.Claim.{R};
 ghost use Rattle.model.proofs.Fields.{Dimensioned};
 ghost use Rattle.model.proofs.RuleLaws.{Tabled};
@@ -13,7 +15,7 @@ use model::Dims;
 // several rows at once.
 fn rows_ok(topup: &[i64], n: u64) -> bool
     requires { (2 * n ≤ length topup.now) × (n ≤ 100000) }
-    ensures { result ≡ allTo n (row_ok topup.now) }
+    ensures { result ≡ all_to n (row_ok topup.now) }
 {
     let mut low = 0;
     let mut high = 0;
@@ -35,7 +37,7 @@ fn rows_ok(topup: &[i64], n: u64) -> bool
 // 17: the table is as long as it has to be, and each of its rows keeps the rules.
 pub fn table_ok(topup: &[i64], d: Dims) -> bool
     requires { Dimensioned d }
-    ensures { result ≡ topupOk d topup.now }
+    ensures { result ≡ topup_ok d topup.now }
 {
     let long = topup.len() as u64;
     if long != 2 * d.items {
@@ -47,7 +49,7 @@ pub fn table_ok(topup: &[i64], d: Dims) -> bool
 // An item's margin.
 pub fn margin_of(topup: &[i64], d: Dims, item: u64) -> u64
     requires { Dimensioned d × (Tabled d topup.now × R d.items item) }
-    ensures { result ≡ marginOf topup.now item }
+    ensures { result ≡ margin_of topup.now item }
 {
     cells::held(topup, 2 * (item - 1))
 }
@@ -55,7 +57,7 @@ pub fn margin_of(topup: &[i64], d: Dims, item: u64) -> u64
 // An item's lift.
 pub fn lift_of(topup: &[i64], d: Dims, item: u64) -> u64
     requires { Dimensioned d × (Tabled d topup.now × R d.items item) }
-    ensures { result ≡ liftOf topup.now item }
+    ensures { result ≡ lift_of topup.now item }
 {
     cells::held(topup, 2 * (item - 1) + 1)
 }

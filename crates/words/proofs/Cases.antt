@@ -6,8 +6,8 @@ use Prim.Native.Nat.{ℕ}
 use lib.ListN.{replicate}
 use Rattle.model.specs.declared.Comparison.{Comparison}
 use Rattle.model.specs.declared.Comparison.TheVariants.{Smaller, Equal, Larger}
-use Rattle.model.specs.Names.{padded, compareNames}
-use Rattle.words.specs.Words.{word_of, compareWords}
+use Rattle.model.specs.Names.{padded, compare_names}
+use Rattle.words.specs.Words.{word_of, compare_words}
 
 pub record Case : Type 0 where
   pub one : List ℕ
@@ -55,15 +55,15 @@ cases =
     ∷ case (replicate 8 65 ++ replicate 8 32) (replicate 8 65 ++ (31 ∷ replicate 7 255)) Larger
     ∷ case (0 ∷ 1 ∷ 2 ∷ 3 ∷ 4 ∷ 5 ∷ 6 ∷ 7 ∷ 8 ∷ 9 ∷ 10 ∷ 11 ∷ 12 ∷ 13 ∷ 14 ∷ 15 ∷ []) (0 ∷ 1 ∷ 2 ∷ 3 ∷ 4 ∷ 5 ∷ 6 ∷ 7 ∷ 8 ∷ 9 ∷ 10 ∷ 11 ∷ 12 ∷ 13 ∷ 14 ∷ 15 ∷ []) Equal ∷ []
 
-pub by-words : map (λ (c : Case). compareWords c.one c.other) cases ≡ map (λ (c : Case). c.says) cases
-unfolding compareWords word_of padded
-by-words = refl
+pub by_words : map (λ (c : Case). compare_words c.one c.other) cases ≡ map (λ (c : Case). c.says) cases
+unfolding compare_words word_of padded
+by_words = refl
 
-pub by_bytes : map (λ (c : Case). compareNames c.one c.other) cases ≡ map (λ (c : Case). c.says) cases
-unfolding compareNames padded
+pub by_bytes : map (λ (c : Case). compare_names c.one c.other) cases ≡ map (λ (c : Case). c.says) cases
+unfolding compare_names padded
 by_bytes = refl
 
 -- the largest word, and the first byte the highest
-pub word-values : word_of (replicate 8 255) ∷ word_of (1 ∷ 0 ∷ 0 ∷ 0 ∷ 0 ∷ 0 ∷ 0 ∷ 2 ∷ []) ∷ [] ≡ 18446744073709551615 ∷ 72057594037927938 ∷ []
+pub word_values : word_of (replicate 8 255) ∷ word_of (1 ∷ 0 ∷ 0 ∷ 0 ∷ 0 ∷ 0 ∷ 0 ∷ 2 ∷ []) ∷ [] ≡ 18446744073709551615 ∷ 72057594037927938 ∷ []
 unfolding word_of
-word-values = refl
+word_values = refl

@@ -12,24 +12,24 @@ use lib.ListN.{length, get_or, take, drop, length-drop, take-append-drop, drop_o
 use lib.Seq.{length-take-le, drop-cons, drop_at, drop-drop, take-take, take-add}
 use Rattle.model.specs.declared.Comparison.{Comparison}
 use Rattle.model.specs.declared.Comparison.TheVariants.{Smaller, Equal, Larger}
-use Rattle.model.specs.Names.{compareNames, name_at}
+use Rattle.model.specs.Names.{compare_names, name_at}
 use Rattle.model.proofs.TestLaws.{and_left, and_right, and_both}
-use Rattle.words.specs.Words.{wordFrom, word_of, first_of, compareWords, bytes, WordFits, WordsAsBytes}
+use Rattle.words.specs.Words.{word_from, word_of, first_of, compare_words, bytes, WordFits, WordsAsBytes}
 
 -- what is known of the first byte, and of the rest
-byte-first : (x : ℕ) (xs : List ℕ) → bytes (x ∷ xs) ≡ true → x < 256
-byte-first x xs h = ltb-true x 256 (and_left (ltb x 256) (bytes xs) h)
+byte_first : (x : ℕ) (xs : List ℕ) → bytes (x ∷ xs) ≡ true → x < 256
+byte_first x xs h = ltb-true x 256 (and_left (ltb x 256) (bytes xs) h)
 
-byte-rest : (x : ℕ) (xs : List ℕ) → bytes (x ∷ xs) ≡ true → bytes xs ≡ true
-byte-rest x xs h = and_right (ltb x 256) (bytes xs) h
+byte_rest : (x : ℕ) (xs : List ℕ) → bytes (x ∷ xs) ≡ true → bytes xs ≡ true
+byte_rest x xs h = and_right (ltb x 256) (bytes xs) h
 
 -- a comparison, and where it is equal what follows
-abbrev pub thenBy : Comparison → Comparison → Comparison
-thenBy Smaller rest = Smaller
-thenBy Equal rest = rest
-thenBy Larger rest = Larger
+abbrev pub then_by : Comparison → Comparison → Comparison
+then_by Smaller rest = Smaller
+then_by Equal rest = rest
+then_by Larger rest = Larger
 
-then_equal : (c : Comparison) → thenBy c Equal ≡ c
+then_equal : (c : Comparison) → then_by c Equal ≡ c
 then_equal Smaller = refl
 then_equal Equal = refl
 then_equal Larger = refl
@@ -45,86 +45,86 @@ module _ {x y : ℕ} (rest : Comparison) where
   same e = rw (le-ltb x y (omega arith), le-ltb y x (omega arith))
 
 -- two numbers, and then what follows
-pub first_then : (x y : ℕ) (rest : Comparison) → first_of x y rest ≡ thenBy (first_of x y Equal) rest
+pub first_then : (x y : ℕ) (rest : Comparison) → first_of x y rest ≡ then_by (first_of x y Equal) rest
 first_then x y rest = by_tests (ltb x y) (ltb y x)
   where
-    by_tests : (s t : Bool) → cond s Smaller (cond t Larger rest) ≡ thenBy (cond s Smaller (cond t Larger Equal)) rest
+    by_tests : (s t : Bool) → cond s Smaller (cond t Larger rest) ≡ then_by (cond s Smaller (cond t Larger Equal)) rest
     by_tests true t = refl
     by_tests false true = refl
     by_tests false false = refl
 
 -- what stands before decides
-front_less : (x y : List ℕ) (n m : ℕ) → length x ≡ length y → bytes x ≡ true → n < m → wordFrom n x < wordFrom m y
+front_less : (x y : List ℕ) (n m : ℕ) → length x ≡ length y → bytes x ≡ true → n < m → word_from n x < word_from m y
 front_less [] [] n m e f h = h
 front_less [] (b ∷ y) n m e f h = absurd (omega arith)
 front_less (a ∷ x) [] n m e f h = absurd (omega arith)
 front_less (a ∷ x) (b ∷ y) n m e f h =
-    let k = byte-first a x f in
-    front_less x y (n * 256 + a) (m * 256 + b) (omega arith) (byte-rest a x f) (omega arith)
+    let k = byte_first a x f in
+    front_less x y (n * 256 + a) (m * 256 + b) (omega arith) (byte_rest a x f) (omega arith)
 
 -- bytes behind equal fronts as one number, whatever the length
-words-then : (x y : List ℕ) (n : ℕ) (rest : Comparison) → length x ≡ length y → bytes x ≡ true → bytes y ≡ true
-    → first_of (wordFrom n x) (wordFrom n y) rest ≡ thenBy (compareNames x y) rest
-unfolding compareNames
-words-then [] [] n rest e f g = same {x = n} {y = n} rest refl
-words-then [] (b ∷ y) n rest e f g = absurd (omega arith)
-words-then (a ∷ x) [] n rest e f g = absurd (omega arith)
-words-then (a ∷ x) (b ∷ y) n rest e f g =
+words_then : (x y : List ℕ) (n : ℕ) (rest : Comparison) → length x ≡ length y → bytes x ≡ true → bytes y ≡ true
+    → first_of (word_from n x) (word_from n y) rest ≡ then_by (compare_names x y) rest
+unfolding compare_names
+words_then [] [] n rest e f g = same {x = n} {y = n} rest refl
+words_then [] (b ∷ y) n rest e f g = absurd (omega arith)
+words_then (a ∷ x) [] n rest e f g = absurd (omega arith)
+words_then (a ∷ x) (b ∷ y) n rest e f g =
     let l : length x ≡ length y = omega arith in
-    by_first l (words-then x y (n * 256 + b) rest l (byte-rest a x f) (byte-rest b y g)) (ltb a b) (ltb b a) refl refl
+    by_first l (words_then x y (n * 256 + b) rest l (byte_rest a x f) (byte_rest b y g)) (ltb a b) (ltb b a) refl refl
   where
-    by_first : length x ≡ length y → first_of (wordFrom (n * 256 + b) x) (wordFrom (n * 256 + b) y) rest ≡ thenBy (compareNames x y) rest
+    by_first : length x ≡ length y → first_of (word_from (n * 256 + b) x) (word_from (n * 256 + b) y) rest ≡ then_by (compare_names x y) rest
         → (s t : Bool) → ltb a b ≡ s → ltb b a ≡ t
-        → first_of (wordFrom (n * 256 + a) x) (wordFrom (n * 256 + b) y) rest ≡ thenBy (cond s Smaller (cond t Larger (compareNames x y))) rest
-    by_first l i true t p q = less rest (front_less x y (n * 256 + a) (n * 256 + b) l (byte-rest a x f) (omega (arith, ltb-true a b p)))
-    by_first l i false true p q = more rest (front_less y x (n * 256 + b) (n * 256 + a) (sym l) (byte-rest b y g) (omega (arith, ltb-true b a q)))
+        → first_of (word_from (n * 256 + a) x) (word_from (n * 256 + b) y) rest ≡ then_by (cond s Smaller (cond t Larger (compare_names x y))) rest
+    by_first l i true t p q = less rest (front_less x y (n * 256 + a) (n * 256 + b) l (byte_rest a x f) (omega (arith, ltb-true a b p)))
+    by_first l i false true p q = more rest (front_less y x (n * 256 + b) (n * 256 + a) (sym l) (byte_rest b y g) (omega (arith, ltb-true b a q)))
     by_first l i false false p q =
         let k : a ≡ b = le_antisymm (ltb-false b a q) (ltb-false a b p) in
         rw k i
 
 -- names in two parts: the first parts, then the second
-parts_then : (x y u v : List ℕ) → length x ≡ length y → compareNames (x ++ u) (y ++ v) ≡ thenBy (compareNames x y) (compareNames u v)
-unfolding compareNames
+parts_then : (x y u v : List ℕ) → length x ≡ length y → compare_names (x ++ u) (y ++ v) ≡ then_by (compare_names x y) (compare_names u v)
+unfolding compare_names
 parts_then [] [] u v e = refl
 parts_then [] (b ∷ y) u v e = absurd (omega arith)
 parts_then (a ∷ x) [] u v e = absurd (omega arith)
 parts_then (a ∷ x) (b ∷ y) u v e = by_first (parts_then x y u v (omega arith)) (ltb a b) (ltb b a)
   where
-    by_first : compareNames (x ++ u) (y ++ v) ≡ thenBy (compareNames x y) (compareNames u v)
-        → (s t : Bool) → cond s Smaller (cond t Larger (compareNames (x ++ u) (y ++ v))) ≡ thenBy (cond s Smaller (cond t Larger (compareNames x y))) (compareNames u v)
+    by_first : compare_names (x ++ u) (y ++ v) ≡ then_by (compare_names x y) (compare_names u v)
+        → (s t : Bool) → cond s Smaller (cond t Larger (compare_names (x ++ u) (y ++ v))) ≡ then_by (cond s Smaller (cond t Larger (compare_names x y))) (compare_names u v)
     by_first i true t = refl
     by_first i false true = refl
     by_first i false false = i
 
-length-half : (x : List ℕ) → length x ≡ 16 → length (take 8 x) ≡ 8
-length-half x e = length-take-le 8 x (omega arith)
+length_half : (x : List ℕ) → length x ≡ 16 → length (take 8 x) ≡ 8
+length_half x e = length-take-le 8 x (omega arith)
 
 length_rest : (x : List ℕ) → length x ≡ 16 → length (drop 8 x) ≡ 8
 length_rest x e = length-drop 8 x ∙ omega arith
 
-bytes-half : (n : ℕ) (x : List ℕ) → bytes x ≡ true → (bytes (take n x) ≡ true) × (bytes (drop n x) ≡ true)
-bytes-half zero x f = (refl, f)
-bytes-half (suc n) [] f = (refl, refl)
-bytes-half (suc n) (a ∷ x) f =
-    let k = bytes-half n x (byte-rest a x f) in
+bytes_half : (n : ℕ) (x : List ℕ) → bytes x ≡ true → (bytes (take n x) ≡ true) × (bytes (drop n x) ≡ true)
+bytes_half zero x f = (refl, f)
+bytes_half (suc n) [] f = (refl, refl)
+bytes_half (suc n) (a ∷ x) f =
+    let k = bytes_half n x (byte_rest a x f) in
     (and_both (ltb a 256) (bytes (take n x)) (and_left (ltb a 256) (bytes x) f) k.0, k.1)
 
 -- equal first numbers: the second decide; so with bytes
-pub words-as-bytes : WordsAsBytes
-unfolding compareWords word_of
-words-as-bytes x y e h f g =
-    words-then (take 8 x) (take 8 y) 0 (first_of (wordFrom 0 (drop 8 x)) (wordFrom 0 (drop 8 y)) Equal) (length-half x e ∙ sym (length-half y h)) (bytes-half 8 x f).0 (bytes-half 8 y g).0
-    ∙ ap (thenBy (compareNames (take 8 x) (take 8 y))) (words-then (drop 8 x) (drop 8 y) 0 Equal (length_rest x e ∙ sym (length_rest y h)) (bytes-half 8 x f).1 (bytes-half 8 y g).1 ∙ then_equal _)
-    ∙ sym (parts_then (take 8 x) (take 8 y) (drop 8 x) (drop 8 y) (length-half x e ∙ sym (length-half y h)))
+pub words_as_bytes : WordsAsBytes
+unfolding compare_words word_of
+words_as_bytes x y e h f g =
+    words_then (take 8 x) (take 8 y) 0 (first_of (word_from 0 (drop 8 x)) (word_from 0 (drop 8 y)) Equal) (length_half x e ∙ sym (length_half y h)) (bytes_half 8 x f).0 (bytes_half 8 y g).0
+    ∙ ap (then_by (compare_names (take 8 x) (take 8 y))) (words_then (drop 8 x) (drop 8 y) 0 Equal (length_rest x e ∙ sym (length_rest y h)) (bytes_half 8 x f).1 (bytes_half 8 y g).1 ∙ then_equal _)
+    ∙ sym (parts_then (take 8 x) (take 8 y) (drop 8 x) (drop 8 y) (length_half x e ∙ sym (length_half y h)))
     ∙ rw (take-append-drop 8 x, take-append-drop 8 y)
 
-word_below : (xs : List ℕ) (n : ℕ) → bytes xs ≡ true → wordFrom n xs < (n + 1) * 256 ^ length xs
+word_below : (xs : List ℕ) (n : ℕ) → bytes xs ≡ true → word_from n xs < (n + 1) * 256 ^ length xs
 word_below [] n f = omega arith
 word_below (x ∷ xs) n f =
-    let k = byte-first x xs f in
+    let k = byte_first x xs f in
     let m : (n * 256 + x + 1) * 256 ^ length xs ≤ (n + 1) * 256 * 256 ^ length xs = mul-le-mul_right (256 ^ length xs) (omega arith) in
     let e : (n + 1) * 256 ^ suc (length xs) ≡ (n + 1) * 256 * 256 ^ length xs = rw (pow-suc 256 (length xs), mul_comm (256 ^ length xs) 256) (sym (mul_assoc (n + 1) 256 (256 ^ length xs))) in
-    rw e (lt_of_lt_of_le (word_below xs (n * 256 + x) (byte-rest x xs f)) m)
+    rw e (lt_of_lt_of_le (word_below xs (n * 256 + x) (byte_rest x xs f)) m)
 
 pub word_fits : WordFits
 unfolding word_of
@@ -134,29 +134,29 @@ word_fits xs e f =
 
 -- ── what the code finds ──
 -- a byte more
-word_next : (s : List ℕ) (j w : ℕ) {v : ℕ} → j < length s → v ≡ w * 256 + get_or s j 0 → wordFrom w (drop j s) ≡ wordFrom v (drop (suc j) s)
+word_next : (s : List ℕ) (j w : ℕ) {v : ℕ} → j < length s → v ≡ w * 256 + get_or s j 0 → word_from w (drop j s) ≡ word_from v (drop (suc j) s)
 word_next s j w {v} h e = rw (drop-cons s j 0 h, e)
 
 -- eight bytes in turn
-pub word-eight : (s : List ℕ) {a b c d e f g h : ℕ} → length s ≡ 8
+pub word_eight : (s : List ℕ) {a b c d e f g h : ℕ} → length s ≡ 8
     → a ≡ 0 * 256 + get_or s 0 0 → b ≡ a * 256 + get_or s 1 0 → c ≡ b * 256 + get_or s 2 0 → d ≡ c * 256 + get_or s 3 0
     → e ≡ d * 256 + get_or s 4 0 → f ≡ e * 256 + get_or s 5 0 → g ≡ f * 256 + get_or s 6 0 → h ≡ g * 256 + get_or s 7 0
     → h ≡ word_of s
 unfolding word_of
-word-eight s {a} {b} {c} {d} {e} {f} {g} {h} l p₁ p₂ p₃ p₄ p₅ p₆ p₇ p₈ =
+word_eight s {a} {b} {c} {d} {e} {f} {g} {h} l p₁ p₂ p₃ p₄ p₅ p₆ p₇ p₈ =
     sym (word_next s 0 0 (omega arith) p₁ ∙ word_next s 1 a (omega arith) p₂ ∙ word_next s 2 b (omega arith) p₃ ∙ word_next s 3 c (omega arith) p₄
     ∙ word_next s 4 d (omega arith) p₅ ∙ word_next s 5 e (omega arith) p₆ ∙ word_next s 6 f (omega arith) p₇ ∙ word_next s 7 g (omega arith) p₈
-    ∙ ap (wordFrom h) (drop_of_length-le s {i = 8} (omega arith)))
+    ∙ ap (word_from h) (drop_of_length-le s {i = 8} (omega arith)))
 
 -- the part that a word is read from
-pub word-part : (a : List ℕ) (p : ℕ) → word_of (take (p + 8 - p) (drop p a)) ≡ word_of (take 8 (drop p a))
-word-part a p = let e : p + 8 - p ≡ 8 = omega arith in rw e
+pub word_part : (a : List ℕ) (p : ℕ) → word_of (take (p + 8 - p) (drop p a)) ≡ word_of (take 8 (drop p a))
+word_part a p = let e : p + 8 - p ≡ 8 = omega arith in rw e
 
 length_part : (n : ℕ) (a : List ℕ) (p : ℕ) → p + n ≤ length a → length (take n (drop p a)) ≡ n
 length_part n a p h = length-take-le n (drop p a) (rw (length-drop p a) (omega arith))
 
-second-half : (a : List ℕ) (p : ℕ) → p + 16 ≤ length a → drop 8 (name_at a p) ≡ take 8 (drop (p + 8) a)
-second-half a p h =
+second_half : (a : List ℕ) (p : ℕ) → p + 16 ≤ length a → drop 8 (name_at a p) ≡ take 8 (drop (p + 8) a)
+second_half a p h =
     ap (λ (l : List ℕ). drop 8 l) (take-add 8 8 (drop p a))
     ∙ drop_at (take 8 (drop p a)) (take 8 (drop 8 (drop p a))) 8 (length_part 8 a p (omega arith))
     ∙ ap (λ (l : List ℕ). take 8 l) (drop-drop 8 p a)
@@ -170,22 +170,22 @@ bytes_of a f (suc n) p h =
 -- two names of 16 bytes where they lie
 module _ (a b : List ℕ) (p q : ℕ) (h : p + 16 ≤ length a) (k : q + 16 ≤ length b) where
   -- the first numbers, and where they are equal the second
-  first-words : {x y : ℕ} {r : Comparison} → x ≡ word_of (take 8 (drop p a)) → y ≡ word_of (take 8 (drop q b)) → r ≡ first_of x y Equal
-      → compareWords (name_at a p) (name_at b q) ≡ thenBy r (first_of (word_of (take 8 (drop (p + 8) a))) (word_of (take 8 (drop (q + 8) b))) Equal)
-  unfolding compareWords
-  first-words {x} {y} {r} e f g =
-      rw (take-take 8 16 (drop p a) (omega arith), take-take 8 16 (drop q b) (omega arith), second-half a p h, second-half b q k, g, e, f)
+  first_words : {x y : ℕ} {r : Comparison} → x ≡ word_of (take 8 (drop p a)) → y ≡ word_of (take 8 (drop q b)) → r ≡ first_of x y Equal
+      → compare_words (name_at a p) (name_at b q) ≡ then_by r (first_of (word_of (take 8 (drop (p + 8) a))) (word_of (take 8 (drop (q + 8) b))) Equal)
+  unfolding compare_words
+  first_words {x} {y} {r} e f g =
+      rw (take-take 8 16 (drop p a) (omega arith), take-take 8 16 (drop q b) (omega arith), second_half a p h, second_half b q k, g, e, f)
       (first_then (word_of (take 8 (drop p a))) (word_of (take 8 (drop q b))) (first_of (word_of (take 8 (drop (p + 8) a))) (word_of (take 8 (drop (q + 8) b))) Equal))
 
-  pub second-words : {x y : ℕ} {s : Comparison} → x ≡ word_of (take 8 (drop (p + 8) a)) → y ≡ word_of (take 8 (drop (q + 8) b)) → s ≡ first_of x y Equal
-      → s ≡ thenBy Equal (first_of (word_of (take 8 (drop (p + 8) a))) (word_of (take 8 (drop (q + 8) b))) Equal)
-  second-words e f g = rw (g, e, f)
+  pub second_words : {x y : ℕ} {s : Comparison} → x ≡ word_of (take 8 (drop (p + 8) a)) → y ≡ word_of (take 8 (drop (q + 8) b)) → s ≡ first_of x y Equal
+      → s ≡ then_by Equal (first_of (word_of (take 8 (drop (p + 8) a))) (word_of (take 8 (drop (q + 8) b))) Equal)
+  second_words e f g = rw (g, e, f)
 
   -- what the first numbers say is t; the answer s, in both meanings
   pub compared : ((i : ℕ) → get_or a i 0 < 256) → ((i : ℕ) → get_or b i 0 < 256)
       → {x y : ℕ} {r s t : Comparison} → x ≡ word_of (take 8 (drop p a)) → y ≡ word_of (take 8 (drop q b)) → r ≡ first_of x y Equal → r ≡ t
-      → s ≡ thenBy t (first_of (word_of (take 8 (drop (p + 8) a))) (word_of (take 8 (drop (q + 8) b))) Equal)
-      → (s ≡ compareWords (name_at a p) (name_at b q)) × (s ≡ compareNames (name_at a p) (name_at b q))
+      → s ≡ then_by t (first_of (word_of (take 8 (drop (p + 8) a))) (word_of (take 8 (drop (q + 8) b))) Equal)
+      → (s ≡ compare_words (name_at a p) (name_at b q)) × (s ≡ compare_names (name_at a p) (name_at b q))
   compared f g {s = s} {t = t} ex ey er et es =
-      let w : s ≡ compareWords (name_at a p) (name_at b q) = es ∙ sym (first-words ex ey (sym et ∙ er)) in
-      (w, w ∙ words-as-bytes (name_at a p) (name_at b q) (length_part 16 a p h) (length_part 16 b q k) (bytes_of a f 16 p h) (bytes_of b g 16 q k))
+      let w : s ≡ compare_words (name_at a p) (name_at b q) = es ∙ sym (first_words ex ey (sym et ∙ er)) in
+      (w, w ∙ words_as_bytes (name_at a p) (name_at b q) (length_part 16 a p h) (length_part 16 b q k) (bytes_of a f 16 p h) (bytes_of b g 16 q k))

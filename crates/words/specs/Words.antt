@@ -1,27 +1,27 @@
 -- R-3. Names a word at a time: "However by-name lookups compare 16 bytes now, compare eight at a time, with the same meaning, ties included."
--- No rule of the book is here: `compareNames` of the model stays the meaning, and the only comparison that the rules cite.
+-- No rule of the book is here: `compare_names` of the model stays the meaning, and the only comparison that the rules cite.
 -- Assumes nothing.
 use Rattle.std.specs.Prelude.{◌≡◌, Bool, true, cond, List, [], ◌∷◌, ℕ, ◌+◌, ◌*◌, ◌<◌, ◌^◌, ltb, length, take, drop}
 use Rattle.model.specs.declared.Comparison.{Comparison}
 use Rattle.model.specs.declared.Comparison.TheVariants.{Smaller, Equal, Larger}
 use Rattle.model.specs.Tests.{all_of}
-use Rattle.model.specs.Names.{compareNames}
+use Rattle.model.specs.Names.{compare_names}
 
 -- bytes as one number, the first byte the highest; n stands before them
-abbrev pub wordFrom : ℕ → List ℕ → ℕ
-wordFrom n [] = n
-wordFrom n (x ∷ xs) = wordFrom (n * 256 + x) xs
+abbrev pub word_from : ℕ → List ℕ → ℕ
+word_from n [] = n
+word_from n (x ∷ xs) = word_from (n * 256 + x) xs
 
 unfoldable pub word_of : List ℕ → ℕ
-word_of xs = wordFrom 0 xs
+word_of xs = word_from 0 xs
 
 -- two numbers, and where they are equal what follows
 abbrev pub first_of : ℕ → ℕ → Comparison → Comparison
 first_of x y rest = cond (ltb x y) Smaller (cond (ltb y x) Larger rest)
 
 -- "compare eight at a time": two names of 16 bytes as two numbers each
-unfoldable pub compareWords : List ℕ → List ℕ → Comparison
-compareWords x y = first_of (word_of (take 8 x)) (word_of (take 8 y)) (first_of (word_of (drop 8 x)) (word_of (drop 8 y)) Equal)
+unfoldable pub compare_words : List ℕ → List ℕ → Comparison
+compare_words x y = first_of (word_of (take 8 x)) (word_of (take 8 y)) (first_of (word_of (drop 8 x)) (word_of (drop 8 y)) Equal)
 
 abbrev pub bytes : List ℕ → Bool
 bytes = all_of (λ x. ltb x 256)
@@ -34,4 +34,4 @@ WordFits = (xs : List ℕ) → length xs ≡ 8 → bytes xs ≡ true → word_of
 abbrev pub WordsAsBytes : Type 0
 WordsAsBytes =
     (x y : List ℕ) → length x ≡ 16 → length y ≡ 16 → bytes x ≡ true → bytes y ≡ true
-    → compareWords x y ≡ compareNames x y
+    → compare_words x y ≡ compare_names x y

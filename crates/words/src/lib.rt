@@ -1,8 +1,10 @@
 // Names compared a word at a time: eight bytes are one number, the first byte the highest.
+#![tactic(auto)]
+
 ghost use Rattle.std.specs.Prelude.{◌≡◌, ◌+◌, ◌*◌, ◌≤◌, ◌<◌, ◌^◌, length, take, drop};
-ghost use Rattle.model.specs.Names.{name_at, compareNames};
+ghost use Rattle.model.specs.Names.{name_at, compare_names};
 ghost use Rattle.model.specs.declared.Comparison.TheVariants.{Equal};
-ghost use Rattle.words.specs.Words.{word_of, first_of, compareWords};
+ghost use Rattle.words.specs.Words.{word_of, first_of, compare_words};
 
 use model::Comparison;
 
@@ -51,8 +53,8 @@ fn compare_numbers(x: u64, y: u64) -> Comparison
 // first are equal.
 pub fn compare_names(a: &[u8], p: u64, b: &[u8], q: u64) -> Comparison
     requires { (p + 16 ≤ length a.now) × (q + 16 ≤ length b.now) }
-    ensures { (result ≡ compareWords (name_at a.now p) (name_at b.now q))
-        × (result ≡ compareNames (name_at a.now p) (name_at b.now q)) }
+    ensures { (result ≡ compare_words (name_at a.now p) (name_at b.now q))
+        × (result ≡ compare_names (name_at a.now p) (name_at b.now q)) }
 {
     let first = compare_numbers(word_at(a, p), word_at(b, q));
     match first {

@@ -1,13 +1,15 @@
 // Request lines: writing one.
+#![tactic(auto)]
+
 ghost use Rattle.std.specs.Prelude.{◌≡◌, true, [], ◌∷◌, ◌+◌, ◌*◌, ◌≤◌, ◌<◌, length};
 ghost use Rattle.std.proofs.Math.Seq.{paste};
 ghost use Rattle.model.specs.Tests.{all_of};
-ghost use Rattle.model.specs.Names.{whoOf};
-ghost use Rattle.model.specs.Request.{requestOf, lines_of, newOrder, payment, delivery, orderStatus, stockLevel};
-ghost use Rattle.model.specs.Text.{hasDigits, decimal, tabbed};
-ghost use Rattle.model.specs.RequestLine.{isName, hasWho, whoField, lineSmall, lineFields, hasForm, line_of};
+ghost use Rattle.model.specs.Names.{who_of};
+ghost use Rattle.model.specs.Request.{request_of, lines_of, new_order, payment, delivery, order_status, stock_level};
+ghost use Rattle.model.specs.Text.{has_digits, decimal, tabbed};
+ghost use Rattle.model.specs.RequestLine.{is_name, has_who, who_field, line_small, line_fields, has_form, line_of};
 ghost use Rattle.text.specs.Writing.{Wrote};
-ghost use Rattle.writing.specs.Writing.{Written, notWritten};
+ghost use Rattle.writing.specs.Writing.{Written, not_written};
 
 use model::{
     Delivery, Form, NewOrder, OrderStatus, Payment, Refusal, Selection, StockLevel, WriteAnswer,
@@ -38,7 +40,7 @@ fn put_hash(line: &mut [u8], at: usize, c: u64) -> usize
 
 // A tab, = and a name.
 fn put_name(line: &mut [u8], at: usize, name: &[u8]) -> usize
-    requires { (isName name.now ≡ true) × (at + 22 ≤ length line.old) }
+    requires { (is_name name.now ≡ true) × (at + 22 ≤ length line.old) }
     ensures { Wrote line.old line.new at result (tabbed ((61 ∷ name.now) ∷ [])) × (result ≤ at + 22) }
 {
     line[at] = 9;
@@ -50,8 +52,8 @@ fn put_name(line: &mut [u8], at: usize, name: &[u8]) -> usize
 
 // A tab and who.
 fn put_who(line: &mut [u8], at: usize, who: Selection, name: &[u8]) -> usize
-    requires { (hasWho (whoOf who name.now) ≡ true) × (at + 22 ≤ length line.old) }
-    ensures { Wrote line.old line.new at result (tabbed (whoField (whoOf who name.now) ∷ [])) × (result ≤ at + 22) }
+    requires { (has_who (who_of who name.now) ≡ true) × (at + 22 ≤ length line.old) }
+    ensures { Wrote line.old line.new at result (tabbed (who_field (who_of who name.now) ∷ [])) × (result ≤ at + 22) }
 {
     match who {
         Selection::Number(c) => put_hash(line, at, c),
@@ -80,14 +82,14 @@ fn count(items: &[u64], supplies: &[u64], quantities: &[u64]) -> usize
 
 // The numbers of a line have at most ten digits.
 fn line_small(item: u64, supply: u64, quantity: u64) -> bool
-    ensures { result ≡ lineSmall (record { item = item; supply = supply; quantity = quantity }) }
+    ensures { result ≡ line_small (record { item = item; supply = supply; quantity = quantity }) }
 {
     (item < 10000000000) & (supply < 10000000000) & (quantity < 10000000000)
 }
 
 // The numbers of all lines have at most ten digits.
 fn lines_small(items: &[u64], supplies: &[u64], quantities: &[u64]) -> bool
-    ensures { result ≡ all_of lineSmall (lines_of items.now supplies.now quantities.now) }
+    ensures { result ≡ all_of line_small (lines_of items.now supplies.now quantities.now) }
 {
     let n = count(items, supplies, quantities);
     let mut i = 0;
@@ -109,7 +111,7 @@ fn put_lines(
     quantities: &[u64],
 ) -> usize
     requires { at + 63 * length (lines_of items.now supplies.now quantities.now) ≤ length line.old }
-    ensures { Wrote line.old line.new at result (tabbed (lineFields (lines_of items.now supplies.now quantities.now)))
+    ensures { Wrote line.old line.new at result (tabbed (line_fields (lines_of items.now supplies.now quantities.now)))
         × (result ≤ at + 63 * length (lines_of items.now supplies.now quantities.now)) }
 {
     let n = count(items, supplies, quantities);
@@ -124,8 +126,8 @@ fn put_lines(
 
 // An Order-Status's line, from the front.
 fn put_order_status(line: &mut [u8], q: OrderStatus, who: Selection, name: &[u8]) -> usize
-    requires { (hasWho (whoOf who name.now) ≡ true) × (1031 ≤ length line.old) }
-    ensures { Wrote line.old line.new 0 result (line_of (orderStatus q (whoOf who name.now))) × (result ≤ 1031) }
+    requires { (has_who (who_of who name.now) ≡ true) × (1031 ≤ length line.old) }
+    ensures { Wrote line.old line.new 0 result (line_of (order_status q (who_of who name.now))) × (result ≤ 1031) }
 {
     line[0] = 83;
     let a = text::put_two(line, 1, q.warehouse, q.district);
@@ -136,8 +138,8 @@ fn put_order_status(line: &mut [u8], q: OrderStatus, who: Selection, name: &[u8]
 
 // A Payment's line, from the front.
 fn put_payment(line: &mut [u8], q: Payment, who: Selection, name: &[u8]) -> usize
-    requires { (hasWho (whoOf who name.now) ≡ true) × (1031 ≤ length line.old) }
-    ensures { Wrote line.old line.new 0 result (line_of (payment q (whoOf who name.now))) × (result ≤ 1031) }
+    requires { (has_who (who_of who name.now) ≡ true) × (1031 ≤ length line.old) }
+    ensures { Wrote line.old line.new 0 result (line_of (payment q (who_of who name.now))) × (result ≤ 1031) }
 {
     line[0] = 80;
     let a = text::put_two(line, 1, q.warehouse, q.district);
@@ -158,7 +160,7 @@ fn put_new_order(
 ) -> usize
     requires { (length (lines_of items.now supplies.now quantities.now) ≤ 15) × (1031 ≤ length line.old) }
     ensures { Wrote line.old line.new 0 result
-        (line_of (newOrder q (lines_of items.now supplies.now quantities.now))) × (result ≤ 1031) }
+        (line_of (new_order q (lines_of items.now supplies.now quantities.now))) × (result ≤ 1031) }
 {
     line[0] = 78;
     let a = text::put_two(line, 1, q.warehouse, q.district);
@@ -177,9 +179,9 @@ fn put_line(
     quantities: &[u64],
     name: &[u8],
 ) -> usize
-    requires { (hasForm (requestOf form (lines_of items.now supplies.now quantities.now) name.now) ≡ true) × (1031 ≤ length line.old) }
+    requires { (has_form (request_of form (lines_of items.now supplies.now quantities.now) name.now) ≡ true) × (1031 ≤ length line.old) }
     ensures { Wrote line.old line.new 0 result
-        (line_of (requestOf form (lines_of items.now supplies.now quantities.now) name.now)) × (result ≤ 1031) }
+        (line_of (request_of form (lines_of items.now supplies.now quantities.now) name.now)) × (result ≤ 1031) }
 {
     match form {
         Form::NewOrder(q) => put_new_order(line, q, items, supplies, quantities),
@@ -192,14 +194,14 @@ fn put_line(
 
 // A number has at most ten digits.
 fn small(n: u64) -> bool
-    ensures { result ≡ hasDigits n }
+    ensures { result ≡ has_digits n }
 {
     n < 10000000000
 }
 
 // Who has a form.
 fn who_ok(who: Selection, name: &[u8]) -> bool
-    ensures { result ≡ hasWho (whoOf who name.now) }
+    ensures { result ≡ has_who (who_of who name.now) }
 {
     match who {
         Selection::Number(c) => small(c),
@@ -209,28 +211,28 @@ fn who_ok(who: Selection, name: &[u8]) -> bool
 
 // A Delivery has a form.
 fn delivery_ok(q: Delivery) -> bool
-    ensures { result ≡ hasForm (delivery q) }
+    ensures { result ≡ has_form (delivery q) }
 {
     small(q.warehouse) & small(q.carrier) & small(q.date)
 }
 
 // A Stock-Level has a form.
 fn stock_level_ok(q: StockLevel) -> bool
-    ensures { result ≡ hasForm (stockLevel q) }
+    ensures { result ≡ has_form (stock_level q) }
 {
     small(q.warehouse) & small(q.district) & small(q.threshold)
 }
 
 // An Order-Status has a form.
 fn order_status_ok(q: OrderStatus, who: Selection, name: &[u8]) -> bool
-    ensures { result ≡ hasForm (orderStatus q (whoOf who name.now)) }
+    ensures { result ≡ has_form (order_status q (who_of who name.now)) }
 {
     small(q.warehouse) & small(q.district) & who_ok(who, name)
 }
 
 // A Payment has a form.
 fn payment_ok(q: Payment, who: Selection, name: &[u8]) -> bool
-    ensures { result ≡ hasForm (payment q (whoOf who name.now)) }
+    ensures { result ≡ has_form (payment q (who_of who name.now)) }
 {
     small(q.warehouse)
         & small(q.district)
@@ -243,7 +245,7 @@ fn payment_ok(q: Payment, who: Selection, name: &[u8]) -> bool
 
 // A New-Order has a form.
 fn new_order_ok(q: NewOrder, items: &[u64], supplies: &[u64], quantities: &[u64]) -> bool
-    ensures { result ≡ hasForm (newOrder q (lines_of items.now supplies.now quantities.now)) }
+    ensures { result ≡ has_form (new_order q (lines_of items.now supplies.now quantities.now)) }
 {
     let n = count(items, supplies, quantities);
     small(q.warehouse)
@@ -257,7 +259,7 @@ fn new_order_ok(q: NewOrder, items: &[u64], supplies: &[u64], quantities: &[u64]
 
 // A request has a form.
 fn form_ok(form: Form, items: &[u64], supplies: &[u64], quantities: &[u64], name: &[u8]) -> bool
-    ensures { result ≡ hasForm (requestOf form (lines_of items.now supplies.now quantities.now) name.now) }
+    ensures { result ≡ has_form (request_of form (lines_of items.now supplies.now quantities.now) name.now) }
 {
     match form {
         Form::NewOrder(q) => new_order_ok(q, items, supplies, quantities),
@@ -270,7 +272,7 @@ fn form_ok(form: Form, items: &[u64], supplies: &[u64], quantities: &[u64], name
 
 // The answer where nothing is written.
 pub fn not_written() -> WriteAnswer
-    ensures { result ≡ notWritten }
+    ensures { result ≡ not_written }
 {
     let outcome = WriteOutcome::Refused(Refusal {
         number: 1,
@@ -289,7 +291,7 @@ pub fn write_line(
     name: &[u8],
 ) -> WriteAnswer
     ensures { Written buffer.old buffer.new result.outcome
-        (requestOf form (lines_of items.now supplies.now quantities.now) name.now) }
+        (request_of form (lines_of items.now supplies.now quantities.now) name.now) }
 {
     if form_ok(form, items, supplies, quantities, name) {
         let mut line = [0u8; 1031];

@@ -1,7 +1,7 @@
 use native.Mathlib.Omega.{arith}
 use mathlib.Core.Path.{◌∙◌}
 use lib.ListN.{length-set}
-use Rattle.text.proofs.Putting.{fields-then, whole-line}
+use Rattle.text.proofs.Putting.{fields_then, whole-line}
 use borrow.Author.Rules.{rules}
 use Rattle.answers.proofs.delivery_line.Statement.{statement}
 use Rattle.answers.proofs.delivery_line.Tie as tie
@@ -34,7 +34,7 @@ same_length c =
 
 returns : tie.Need-returns
 returns c =
-    (whole-line _ _ _ _ _ (fields-then _ _ _ _ _ _ _ _ c.before.before.before.before.before.before.put_two.ensures.0 c.before.before.put-ten.ensures.0), omega (arith, c.before.before.before.before.before.before.put_two.ensures.1, c.before.before.put-ten.ensures.1))
+    (whole-line _ _ _ _ _ (fields_then _ _ _ _ _ _ _ _ c.before.before.before.before.before.before.put_two.ensures.0 c.before.before.put-ten.ensures.0), omega (arith, c.before.before.before.before.before.before.put_two.ensures.1, c.before.before.put-ten.ensures.1))
 
 pub delivery-line-spec : {M : Type 1} → statement M
 delivery-line-spec =

@@ -2,7 +2,7 @@ use native.Mathlib.Omega.{arith}
 use mathlib.Core.Path.{◌∙◌}
 use mir.Facts.{to_z-of_z}
 use lib.ListN.{length-set}
-use Rattle.text.proofs.Putting.{fields-then, whole-line}
+use Rattle.text.proofs.Putting.{fields_then, whole-line}
 use borrow.Author.Rules.{rules}
 use Rattle.answers.proofs.payment_line.Statement.{statement}
 use Rattle.answers.proofs.payment_line.Tie as tie
@@ -35,7 +35,7 @@ same_length c =
 
 returns : tie.Need-returns
 returns c =
-    (whole-line _ _ _ _ _ (fields-then _ _ _ _ _ _ _ _ c.before.before.before.before.before.before.put_two.ensures.0 (rw (to_z-of_z c.before.before.before.before.before.before.before.before.before.ranges.balance) at c.before.before.put-signed.ensures.0)), omega (arith, c.before.before.before.before.before.before.put_two.ensures.1, c.before.before.put-signed.ensures.1))
+    (whole-line _ _ _ _ _ (fields_then _ _ _ _ _ _ _ _ c.before.before.before.before.before.before.put_two.ensures.0 (rw (to_z-of_z c.before.before.before.before.before.before.before.before.before.ranges.balance) at c.before.before.put-signed.ensures.0)), omega (arith, c.before.before.before.before.before.before.put_two.ensures.1, c.before.before.put-signed.ensures.1))
 
 pub payment-line-spec : {M : Type 1} → statement M
 payment-line-spec =

@@ -2,7 +2,7 @@ use native.Mathlib.Omega.{arith}
 use mathlib.Core.Path.{◌∙◌}
 use Rattle.cells.proofs.Signed.{held}
 use lib.ListN.{length-set}
-use Rattle.text.proofs.Putting.{fields-then, whole-line}
+use Rattle.text.proofs.Putting.{fields_then, whole-line}
 use borrow.Author.Rules.{rules}
 use Rattle.answers.proofs.status_line.Statement.{statement}
 use Rattle.answers.proofs.status_line.Tie as tie
@@ -45,7 +45,7 @@ same_length c =
 
 returns : tie.Need-returns
 returns c =
-    (whole-line _ _ _ _ _ (fields-then _ _ _ _ _ _ _ _ c.before.before.before.before.before.before.before.before.before.before.before.before.before.before.before.put_two.ensures.0 (fields-then _ _ _ _ _ _ _ _ (rw (held c.before.before.before.before.before.before.before.before.before.before.before.struct_told.given.1.0.1) at c.before.before.before.before.before.before.before.before.before.before.put-signed.ensures.0) (fields-then _ _ _ _ _ _ _ _ c.before.before.before.before.before.before.put_three.ensures.0 c.before.before.put-shown.ensures.0))), omega (arith, c.before.before.before.before.before.before.before.before.before.before.before.before.before.before.before.before.before.before.requires, c.before.before.before.before.before.before.before.before.before.before.before.before.before.before.before.put_two.ensures.1, c.before.before.before.before.before.before.before.before.before.before.put-signed.ensures.1, c.before.before.before.before.before.before.put_three.ensures.1, c.before.before.put-shown.ensures.1))
+    (whole-line _ _ _ _ _ (fields_then _ _ _ _ _ _ _ _ c.before.before.before.before.before.before.before.before.before.before.before.before.before.before.before.put_two.ensures.0 (fields_then _ _ _ _ _ _ _ _ (rw (held c.before.before.before.before.before.before.before.before.before.before.before.struct_told.given.1.0.1) at c.before.before.before.before.before.before.before.before.before.before.put-signed.ensures.0) (fields_then _ _ _ _ _ _ _ _ c.before.before.before.before.before.before.put_three.ensures.0 c.before.before.put-shown.ensures.0))), omega (arith, c.before.before.before.before.before.before.before.before.before.before.before.before.before.before.before.before.before.before.requires, c.before.before.before.before.before.before.before.before.before.before.before.before.before.before.before.put_two.ensures.1, c.before.before.before.before.before.before.before.before.before.before.put-signed.ensures.1, c.before.before.before.before.before.before.put_three.ensures.1, c.before.before.put-shown.ensures.1))
 
 pub status-line-spec : {M : Type 1} → statement M
 status-line-spec =

@@ -1,4 +1,4 @@
-use Rattle.answers.proofs.Putting.{new-order-alone, payment-alone, delivery-alone, status-alone, stock-level-alone}
+use Rattle.answers.proofs.Putting.{new_order_alone, payment_alone, delivery_alone, status_alone, stock_level_alone}
 use borrow.Author.Rules.{rules}
 use Rattle.answers.proofs.tell.Statement.{statement}
 use Rattle.answers.proofs.tell.Tie as tie
@@ -45,35 +45,35 @@ same_length c = search rules
 
 returns : tie.Need-returns
 returns c =
-    rw (c.before.before.before.before.before.o.given.1, ← new-order-alone _ _ _) c.before.before.tell-new-order.ensures
+    rw (c.before.before.before.before.before.o.given.1, ← new_order_alone _ _ _) c.before.before.tell-new-order.ensures
 
 same-length-2 : tie.Need-same-length-2
 same-length-2 c = search rules
 
 returns-2 : tie.Need-returns-2
 returns-2 c =
-    rw (c.before.before.before.before.before.o2.given.1, ← payment-alone _ _ _) c.before.before.tell-payment.ensures
+    rw (c.before.before.before.before.before.o2.given.1, ← payment_alone _ _ _) c.before.before.tell-payment.ensures
 
 same-length-3 : tie.Need-same-length-3
 same-length-3 c = search rules
 
 returns-3 : tie.Need-returns-3
 returns-3 c =
-    rw (c.before.before.before.before.before.o3.given.1, ← delivery-alone _ _ _) c.before.before.tell-delivery.ensures
+    rw (c.before.before.before.before.before.o3.given.1, ← delivery_alone _ _ _) c.before.before.tell-delivery.ensures
 
 same-length-4 : tie.Need-same-length-4
 same-length-4 c = search rules
 
 returns-4 : tie.Need-returns-4
 returns-4 c =
-    rw (c.before.before.before.before.before.o4.given.1, ← status-alone _ _ _) c.before.before.tell-order-status.ensures
+    rw (c.before.before.before.before.before.o4.given.1, ← status_alone _ _ _) c.before.before.tell-order-status.ensures
 
 same-length-5 : tie.Need-same-length-5
 same-length-5 c = search rules
 
 returns-5 : tie.Need-returns-5
 returns-5 c =
-    rw (c.before.before.before.before.before.o5.given.1, ← stock-level-alone _ _ _) c.before.before.tell-stock-level.ensures
+    rw (c.before.before.before.before.before.o5.given.1, ← stock_level_alone _ _ _) c.before.before.tell-stock-level.ensures
 
 pub tell-spec : {M : Type 1} → statement M
 tell-spec =

@@ -1,4 +1,4 @@
-use Rattle.answers.specs.Writing.{outcomeLine}
+use Rattle.answers.specs.Writing.{outcome_line}
 use borrow.Author.Rules.{rules}
 use Rattle.answers.proofs.tell_order_status.Statement.{statement}
 use Rattle.answers.proofs.tell_order_status.Tie as tie
@@ -23,7 +23,7 @@ same_length : tie.Need-same-length
 same_length c = search rules
 
 returns : tie.Need-returns
-unfolding outcomeLine
+unfolding outcome_line
 returns c =
     rw c.before.before.before.before.before.o.given.1 c.before.before.status-line.ensures
 
@@ -31,7 +31,7 @@ same-length-2 : tie.Need-same-length-2
 same-length-2 c = search rules
 
 returns-2 : tie.Need-returns-2
-unfolding outcomeLine
+unfolding outcome_line
 returns-2 c =
     rw c.before.before.before.before.before.o2.given.1 c.before.before.two-line.ensures
 

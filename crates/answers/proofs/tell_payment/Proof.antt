@@ -1,4 +1,4 @@
-use Rattle.answers.specs.Writing.{outcomeLine}
+use Rattle.answers.specs.Writing.{outcome_line}
 use Rattle.cells.proofs.Signed.{held}
 use borrow.Author.Rules.{rules}
 use Rattle.answers.proofs.tell_payment.Statement.{statement}
@@ -24,7 +24,7 @@ same_length : tie.Need-same-length
 same_length c = search rules
 
 returns : tie.Need-returns
-unfolding outcomeLine
+unfolding outcome_line
 returns c =
     rw c.before.before.before.before.before.before.o.given.1 (rw (held c.before.before.before.struct_told.given.1.0.1) at c.before.before.payment-line.ensures)
 
@@ -32,7 +32,7 @@ same-length-2 : tie.Need-same-length-2
 same-length-2 c = search rules
 
 returns-2 : tie.Need-returns-2
-unfolding outcomeLine
+unfolding outcome_line
 returns-2 c =
     rw c.before.before.before.before.before.o2.given.1 c.before.before.two-line.ensures
 

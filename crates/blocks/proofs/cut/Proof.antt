@@ -1,5 +1,5 @@
 use lib.ListN.{length, take}
-use Rattle.blocks.proofs.Bytes.{Unended, byte-ends, byte-goes, none-taken, all-taken}
+use Rattle.blocks.proofs.Bytes.{Unended, byte_ends, byte_goes, none-taken, all-taken}
 use Prim.Native.Nat.{◌-◌}
 use borrow.Author.Rules.{rules}
 use Rattle.blocks.proofs.cut.Statement.{statement}
@@ -32,14 +32,14 @@ same_length c = search rules
 
 returns : tie.Need-returns invariant-loop decreases-loop
 returns c =
-    byte-ends _ _ _ _ _ _ _ _ c.before.before.before.before.before.before.before.loop.invariant c.before.before.before.before.before.before.loop-test.true c.before.before.before.keep.ensures.0 c.before.before.before.keep.ensures.1 c.if1.true
+    byte_ends _ _ _ _ _ _ _ _ c.before.before.before.before.before.before.before.loop.invariant c.before.before.before.before.before.before.loop-test.true c.before.before.before.keep.ensures.0 c.before.before.before.keep.ensures.1 c.if1.true
 
 loop-less : tie.Need-loop-smaller invariant-loop decreases-loop
 loop-less c = search rules
 
 loop-again : tie.Need-loop-preserved invariant-loop decreases-loop
 loop-again c =
-    byte-goes _ _ _ _ _ _ _ _ c.before.before.before.before.before.before.before.loop.invariant c.before.before.before.before.before.before.loop-test.true c.before.before.before.keep.ensures.0 c.before.before.before.keep.ensures.1 c.if1.false (search rules)
+    byte_goes _ _ _ _ _ _ _ _ c.before.before.before.before.before.before.before.loop.invariant c.before.before.before.before.before.before.loop-test.true c.before.before.before.keep.ensures.0 c.before.before.before.keep.ensures.1 c.if1.false (search rules)
 
 same-length-2 : tie.Need-same-length-2 invariant-loop decreases-loop
 same-length-2 c = search rules

@@ -1,5 +1,5 @@
 use mathlib.Core.Path.{◌∙◌, ap}
-use Rattle.flat.specs.Flat.{twoOut}
+use Rattle.flat.specs.Flat.{two_out}
 use borrow.Author.Rules.{rules}
 use Rattle.capi.proofs.book_delivery.Statement.{statement}
 use Rattle.capi.proofs.book_delivery.Tie as tie
@@ -20,7 +20,7 @@ same_length c = search rules
 returns : tie.Need-returns
 returns c =
     record {
-      answers = c.put-delivery.ensures.0 ∙ ap twoOut c.before.before.before.before.delivery.ensures.says;
+      answers = c.put-delivery.ensures.0 ∙ ap two_out c.before.before.before.before.delivery.ensures.says;
       numbers = c.put-delivery.ensures.1 ∙ c.before.before.before.before.delivery.ensures.orders;
       leaves = c.before.before.before.before.delivery.ensures.leaves;
     }

@@ -42,18 +42,18 @@ use denote.Triple.Walked.{says, Stays, gave_slice, gave_ref, stay_none, stay_non
 use Rattle.model.specs.declared.Line.{Line}
 use Rattle.model.specs.declared.NewOrder.{NewOrder}
 use Rattle.model.specs.declared.NewOrderAnswer.{NewOrderAnswer}
-use Rattle.model.specs.Answer.{newOrderSays}
+use Rattle.model.specs.Answer.{new_order_says}
 use Rattle.model.specs.contracts.Line as T
 use Rattle.model.specs.contracts.NewOrder as Q
 use Rattle.model.proofs.NewOrder.TheLaws as Q'
 use Rattle.model.specs.contracts.NewOrderAnswer as R
 use Rattle.model.proofs.NewOrderAnswer.TheLaws as R'
-use Rattle.model.specs.Contracts.{NewOrderCall}
-use Rattle.new_order.specs.contracts.new_order as new-order
+use Rattle.model.specs.Promises.{NewOrderCall}
+use Rattle.new_order.specs.contracts.new_order as new_order
 use Rattle.new_order.proofs.new_order.Symbol as new-order-def
 use Rattle.new_order.proofs.new_order.Symbol.{name as #new_order·new-order}
 use Rattle.new_order.proofs.new_order.Met as new-order-thm
-use Rattle.flat.specs.Flat.{threeOut, newOrderOf}
+use Rattle.flat.specs.Flat.{three_out, new_order_of}
 use Rattle.capi.specs.Calls.{NewOrderC}
 use Rattle.flat.specs.contracts.put_new_order as put
 use Rattle.flat.proofs.put_new_order.Symbol as put-def
@@ -85,7 +85,7 @@ Lent = Bor (List ℤ) × (Bor (List ℕ) × (Bor (List ℤ) × (Bor (List ℤ) �
 
 module _ {M : Type 1} {𝓤 : Ura M} (𝓛 : Logic 𝓤) (mem : Memory → SProp 𝓤) (run : Routine → Fun 𝓤) where
   abbrev Ordered : Contract 𝓤
-  Ordered = triple_of 𝓛 new-order.signature (new-order.spec 𝓛 mem run)
+  Ordered = triple_of 𝓛 new_order.signature (new_order.spec 𝓛 mem run)
 
   abbrev Put : Contract 𝓤
   Put = triple_of 𝓛 put.signature (put.spec 𝓛 mem run)
@@ -114,7 +114,7 @@ module _ {M : Type 1} {𝓤 : Ura M} (𝓛 : Logic 𝓤) (mem : Memory → SProp
   zv = vptr z.ptr.0 z.ptr.1
 
   abbrev order : NewOrder
-  order = newOrderOf w k c t
+  order = new_order_of w k c t
 
   -- its machine value
   abbrev qv : Val
@@ -219,8 +219,8 @@ module _ {M : Type 1} {𝓤 : Ura M} (𝓛 : Logic 𝓤) (mem : Memory → SProp
         move ! (10 ∷ 4 ∷ []) $ join ! $ move ! (3 ∷ 6 ∷ []) $ join ! $ move ! (8 ∷ 0 ∷ []) $ join ! $ move ! (2 ∷ 1 ∷ 0 ∷ []) $ use3 𝓛 (raw ((Ordered 𝓛 mem run).pre to-order)) goes_order $
         -- [what `new_order` asks; ι's token; Topup; Names; Shr; Out; _18; …; _0; …]
         calls_at ! fm (Ordered 𝓛 mem run) known-order to-order (and_then ! (load ! (from ! (stop !)) (look ! 14 refl)) (and_then ! (load ! (from ! (stop !)) (look ! 38 refl)) (and_then ! (load ! (from ! (stop !)) (look ! 10 refl)) (and_then ! (load ! (from ! (stop !)) (look ! 34 refl)) (and_then ! (load ! (from ! (stop !)) (look ! 20 refl)) (and_then ! (load ! (from ! (stop !)) (look ! 24 refl)) (no_more !))))))) (λ u.
-        use1 𝓛 (later (some (λ (m : NewOrderAnswer). (Toks ⊛ ‵ ((R.the_row).own_val m (u ∷ []))) ⊛ raw (ensured 𝓛 new-order.ended (new-order.clauses 𝓛 mem run) (κ, (κ', (κ'', (κ''', (ν, tt))))) (x, (y, (r, (g, (order, (s, tt)))))) tt m)))) (id⊢ 𝓤 _) $ await ! tt $ pick ! (λ m.
-        split ! $ move ! (1 ∷ []) $ use1 𝓛 (some (λ (ns : List ℤ × (Unit {0} × (List ℤ × (Unit {0} × (Unit {0} × (Unit {0} × Unit {0})))))). ‵ (lasts new-order.ended (κ, (κ', (κ'', (κ''', (ν, tt))))) (x, (y, (r, (g, (order, (s, tt)))))) ns) ⊛ raw (fact 𝓤 (Said m ns.0 ns.1.1.0)))) (id⊢ 𝓤 _) $ pick ! (λ ns.
+        use1 𝓛 (later (some (λ (m : NewOrderAnswer). (Toks ⊛ ‵ ((R.the_row).own_val m (u ∷ []))) ⊛ raw (ensured 𝓛 new_order.ended (new_order.clauses 𝓛 mem run) (κ, (κ', (κ'', (κ''', (ν, tt))))) (x, (y, (r, (g, (order, (s, tt)))))) tt m)))) (id⊢ 𝓤 _) $ await ! tt $ pick ! (λ m.
+        split ! $ move ! (1 ∷ []) $ use1 𝓛 (some (λ (ns : List ℤ × (Unit {0} × (List ℤ × (Unit {0} × (Unit {0} × (Unit {0} × Unit {0})))))). ‵ (lasts new_order.ended (κ, (κ', (κ'', (κ''', (ν, tt))))) (x, (y, (r, (g, (order, (s, tt)))))) ns) ⊛ raw (fact 𝓤 (Said m ns.0 ns.1.1.0)))) (id⊢ 𝓤 _) $ pick ! (λ ns.
         split ! $ move ! (1 ∷ []) $ heard ! (Said m ns.0 ns.1.1.0) (λ e. fsplit ! $ fsplit ! $ move ! (1 ∷ []) $ feq_l ! (λ l. move ! (1 ∷ []) $ fsplit ! $ drop ! $ fsplit ! $ fsplit ! $ move ! (1 ∷ []) $ feq_l ! (λ l'. move ! (3 ∷ []) $ split ! $ move ! (1 ∷ []) $
         -- [the answer; the tokens of κ, κ', κ'', κ''', ν; the last orders left; true; the numbers left; ι's token; Topup; Names; Shr; Out; _18; …; _0; …]
         peeks ! R.the_row (Is R.the_row) (shows 𝓛 R.the_row) m (u ∷ []) (λ is. land ! (from ! (stop !)) (init ! 22 refl ((LL.lawful R.the_type R'.the_laws 𝓛).typed m _ is).0) $
@@ -229,14 +229,14 @@ module _ {M : Type 1} {𝓤 : Ura M} (𝓛 : Logic 𝓤) (mem : Memory → SProp
         -- [what `put_new_order` asks; the tokens of κ, κ', κ'', κ''', ν; the last orders left; true; the numbers left; Topup; Names; Shr; _18; …; _0; …]
         calls_at ! fm (Put 𝓛 mem run) known-put (to-put m u) (and_then ! (load ! (from ! (stop !)) (look ! 8 refl)) (and_then ! (load ! (from ! (stop !)) (look ! 20 refl)) (no_more !))) (λ v.
         use1 𝓛 (later (some (λ (i : Unit {0}). ((‵ (flft ι p) ⊛ ‵ ftrue) ⊛ ‵ (Nothing.own i (v ∷ []))) ⊛ raw (ensured 𝓛 put.ended (put.clauses 𝓛 mem run) (ι, tt) (z, (m, tt)) tt i)))) (id⊢ 𝓤 _) $ await ! tt $ pick ! (λ i.
-        split ! $ move ! (1 ∷ []) $ use1 𝓛 (some (λ (os : List ℕ × (Unit {0} × Unit {0})). ‵ (lasts put.ended (ι, tt) (z, (m, tt)) os) ⊛ raw (fact 𝓤 (os.0 ≡ threeOut (newOrderSays m.outcome))))) (id⊢ 𝓤 _) $ pick ! (λ os.
-        split ! $ move ! (1 ∷ []) $ heard ! (os.0 ≡ threeOut (newOrderSays m.outcome)) (λ e'. fsplit ! $ move ! (2 ∷ []) $ split ! $ move ! (1 ∷ []) $
+        split ! $ move ! (1 ∷ []) $ use1 𝓛 (some (λ (os : List ℕ × (Unit {0} × Unit {0})). ‵ (lasts put.ended (ι, tt) (z, (m, tt)) os) ⊛ raw (fact 𝓤 (os.0 ≡ three_out (new_order_says m.outcome))))) (id⊢ 𝓤 _) $ pick ! (λ os.
+        split ! $ move ! (1 ∷ []) $ heard ! (os.0 ≡ three_out (new_order_says m.outcome)) (λ e'. fsplit ! $ move ! (2 ∷ []) $ split ! $ move ! (1 ∷ []) $
         -- [the result; ι's token; the last array; true; the tokens of κ, κ', κ'', κ''', ν; the last orders left; true; the numbers left; Topup; Names; Shr; _18; …; _0; …]
         peeks ! Nothing (Is Nothing) (shows 𝓛 Nothing) i (v ∷ []) (λ is'. land ! (from ! (stop !)) (init ! 13 refl ((Nothing-Lawful 𝓛).typed i _ is').0) $ drop ! $
         assigns ! (of_opd ! (unit_lit !)) (from ! (stop !)) (init ! 46 refl (tt, tt)) $
         returns ! (look ! 46 refl) $ forget ! 10 refl $ forget ! 12 refl $ forget ! 14 refl $ forget ! 16 refl $ forget ! 18 refl $ forget ! 20 refl $ forget ! 22 refl $ forget ! 24 refl $ forget ! 26 refl $ forget ! 28 refl $ forget ! 30 refl $ forget ! 32 refl $ forget ! 34 refl $ forget ! 36 refl $ forget ! 38 refl $ forget ! 40 refl $ forget ! 42 refl $ forget ! 44 refl $ forget ! 46 refl $
         move ! (46 ∷ 47 ∷ []) $ free1 ! $ move ! (44 ∷ 45 ∷ []) $ free1 ! $ move ! (42 ∷ 43 ∷ []) $ free1 ! $ move ! (40 ∷ 41 ∷ []) $ free1 ! $ move ! (38 ∷ 39 ∷ []) $ free1 ! $ move ! (36 ∷ 37 ∷ []) $ free1 ! $ move ! (34 ∷ 35 ∷ []) $ free1 ! $ move ! (32 ∷ 33 ∷ []) $ free1 ! $ move ! (30 ∷ 31 ∷ []) $ free1 ! $ move ! (28 ∷ 29 ∷ []) $ free1 ! $ move ! (26 ∷ 27 ∷ []) $ free1 ! $ move ! (24 ∷ 25 ∷ []) $ free1 ! $ move ! (22 ∷ 23 ∷ []) $ free1 ! $ move ! (20 ∷ 21 ∷ []) $ free1 ! $ move ! (18 ∷ 19 ∷ []) $ free1 ! $ move ! (16 ∷ 17 ∷ []) $ free1 ! $ move ! (14 ∷ 15 ∷ []) $ free1 ! $ move ! (12 ∷ 13 ∷ []) $ free1 ! $ move ! (10 ∷ 11 ∷ []) $ free1 ! $ free0 ! $
-        keep ! (3 ∷ 0 ∷ 6 ∷ 8 ∷ 4 ∷ 7 ∷ 9 ∷ 1 ∷ []) $ by ! (exits ns.0 ns.1.1.0 os.0 (record { answers = e' ∙ ap threeOut e.says; leaves = e.leaves; notes = e.notes }) l l'))))))))))))))))))))))))))))))))
+        keep ! (3 ∷ 0 ∷ 6 ∷ 8 ∷ 4 ∷ 7 ∷ 9 ∷ 1 ∷ []) $ by ! (exits ns.0 ns.1.1.0 os.0 (record { answers = e' ∙ ap three_out e.says; leaves = e.leaves; notes = e.notes }) l l'))))))))))))))))))))))))))))))))
 
 module _ {M : Type 1} {𝓤 : Ura M} (𝓛 : Logic 𝓤) (mem : Memory → SProp 𝓤) (run : Routine → Fun 𝓤) where
   open 𝓛 use {H}

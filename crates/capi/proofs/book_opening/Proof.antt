@@ -1,5 +1,5 @@
 use mathlib.Core.Path.{◌∙◌, ap}
-use Rattle.flat.specs.Flat.{bareOut}
+use Rattle.flat.specs.Flat.{bare_out}
 use borrow.Author.Rules.{rules}
 use Rattle.capi.proofs.book_opening.Statement.{statement}
 use Rattle.capi.proofs.book_opening.Tie as tie
@@ -16,7 +16,7 @@ opening-out-requires c κs = search rules
 
 returns : tie.Need-returns
 returns c =
-    record { answers = c.opening-out.ensures ∙ ap bareOut c.before.opening.ensures.says }
+    record { answers = c.opening-out.ensures ∙ ap bare_out c.before.opening.ensures.says }
 
 pub book-opening-spec : {M : Type 1} → statement M
 book-opening-spec = tie.close (tie.spec opening-requires opening-out-requires returns)

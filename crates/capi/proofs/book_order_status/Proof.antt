@@ -1,5 +1,5 @@
 use mathlib.Core.Path.{◌∙◌, ap}
-use Rattle.flat.specs.Flat.{balanceOut}
+use Rattle.flat.specs.Flat.{balance_out}
 use borrow.Author.Rules.{rules}
 use Rattle.capi.proofs.book_order_status.Statement.{statement}
 use Rattle.capi.proofs.book_order_status.Tie as tie
@@ -26,7 +26,7 @@ returns : tie.Need-returns
 returns c =
     rw (← c.before.before.before.before.selection.ensures) (record {
       answers = rw (c.before.status-out.ensures, ← c.before.before.before.status-shown.ensures.says, ← c.before.before.before.status-shown.ensures.shows);
-      balances = c.status-balance.ensures ∙ ap balanceOut c.before.before.before.status-shown.ensures.says;
+      balances = c.status-balance.ensures ∙ ap balance_out c.before.before.before.status-shown.ensures.says;
       within = rw c.before.status-out.ensures c.before.before.before.status-shown.ensures.within;
     })
 

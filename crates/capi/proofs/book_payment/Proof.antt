@@ -1,5 +1,5 @@
 use mathlib.Core.Path.{◌∙◌, ap}
-use Rattle.flat.specs.Flat.{oneOut, balanceOut}
+use Rattle.flat.specs.Flat.{one_out, balance_out}
 use borrow.Author.Rules.{rules}
 use Rattle.capi.proofs.book_payment.Statement.{statement}
 use Rattle.capi.proofs.book_payment.Tie as tie
@@ -31,8 +31,8 @@ same-length-2 c = search rules
 returns : tie.Need-returns
 returns c =
     rw (← c.before.before.before.before.before.before.before.before.selection.ensures) (record {
-      answers = c.before.payment-out.ensures ∙ ap oneOut c.before.before.before.before.before.payment.ensures.says;
-      balances = c.payment-balance.ensures ∙ ap balanceOut c.before.before.before.before.before.payment.ensures.says;
+      answers = c.before.payment-out.ensures ∙ ap one_out c.before.before.before.before.before.payment.ensures.says;
+      balances = c.payment-balance.ensures ∙ ap balance_out c.before.before.before.before.before.payment.ensures.says;
       leaves = c.before.before.before.before.before.payment.ensures.leaves;
       writes = c.before.before.before.before.before.payment.ensures.writes;
     })

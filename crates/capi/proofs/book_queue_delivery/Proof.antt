@@ -16,13 +16,13 @@ use denote.Triple.Walked.{gave_ref, Goes-gave_ref}
 use Rattle.model.specs.declared.Queue.{Queue}
 use Rattle.model.specs.declared.Waiting.{Waiting}
 use Rattle.model.specs.declared.QueueAnswer.{QueueAnswer}
-use Rattle.model.specs.Answer.{queueSays}
-use Rattle.model.specs.Contracts.{QueueCall}
+use Rattle.model.specs.Answer.{queue_says}
+use Rattle.model.specs.Promises.{QueueCall}
 use Rattle.model.specs.contracts.Queue as Q
 use Rattle.model.proofs.Waiting as D
 use Rattle.model.proofs.QueueAnswer as R
 use Rattle.queue.proofs.queue_delivery as queuing
-use Rattle.flat.specs.Flat.{oneOut, waitingOf}
+use Rattle.flat.specs.Flat.{one_out, waiting_of}
 use Rattle.flat.proofs.put_queue as put
 use Rattle.capi.specs.Calls.{QueueC}
 use Rattle.capi.proofs.book_queue_delivery as book
@@ -54,7 +54,7 @@ module _ {M : Type 1} {𝓤 : Ura M} (𝓛 : Logic 𝓤) (mem : Memory → SProp
   zv = vptr z.ptr.0 z.ptr.1
 
   abbrev d : Waiting
-  d = waitingOf w k t
+  d = waiting_of w k t
 
   -- its machine value
   abbrev dv : Val
@@ -134,13 +134,13 @@ module _ {M : Type 1} {𝓤 : Ura M} (𝓛 : Logic 𝓤) (mem : Memory → SProp
         move ! (2 ∷ 3 ∷ []) $ use2 𝓛 (raw ((Put 𝓛 mem run).pre (to-put m u))) (goes-put m u is) $
         -- [what `put_queue` asks; the list left; κ's token; _10; …; _0; …]
         calls_at ! fm (Put 𝓛 mem run) puts (to-put m u) (and_then ! (load ! (from ! (stop !)) (look ! 3 refl)) (and_then ! (load ! (from ! (stop !)) (look ! 9 refl)) (no_more !))) (λ v.
-        returned ! tt (token κ' q') Nothing (lasts put.ended (κ', tt) (z, (m, tt))) (λ i ws. ws.0 ≡ oneOut (queueSays m.outcome)) v (id⊢ 𝓤 _) (λ i os put_is is'. move ! (1 ∷ []) $ fsplit ! $ move ! (1 ∷ []) $ drop ! $
+        returned ! tt (token κ' q') Nothing (lasts put.ended (κ', tt) (z, (m, tt))) (λ i ws. ws.0 ≡ one_out (queue_says m.outcome)) v (id⊢ 𝓤 _) (λ i os put_is is'. move ! (1 ∷ []) $ fsplit ! $ move ! (1 ∷ []) $ drop ! $
         -- [the last numbers; κ''s token; the list left; κ's token; _10; …; _0; …]
         land ! (from ! (stop !)) (init ! 6 refl ((Nothing-Lawful 𝓛).typed i _ is').0) $
         assigns ! (of_opd ! (unit_lit !)) (from ! (stop !)) (init ! 24 refl (tt, tt)) $
         returns ! (look ! 24 refl) $ forget ! 4 refl $ forget ! 6 refl $ forget ! 8 refl $ forget ! 10 refl $ forget ! 12 refl $ forget ! 14 refl $ forget ! 16 refl $ forget ! 18 refl $ forget ! 20 refl $ forget ! 22 refl $ forget ! 24 refl $
         move ! (24 ∷ 25 ∷ []) $ free1 ! $ move ! (22 ∷ 23 ∷ []) $ free1 ! $ move ! (20 ∷ 21 ∷ []) $ free1 ! $ move ! (18 ∷ 19 ∷ []) $ free1 ! $ move ! (16 ∷ 17 ∷ []) $ free1 ! $ move ! (14 ∷ 15 ∷ []) $ free1 ! $ move ! (12 ∷ 13 ∷ []) $ free1 ! $ move ! (10 ∷ 11 ∷ []) $ free1 ! $ move ! (8 ∷ 9 ∷ []) $ free1 ! $ move ! (6 ∷ 7 ∷ []) $ free1 ! $ move ! (4 ∷ 5 ∷ []) $ free1 ! $ free0 ! $
-        by ! (exits os.0 hs.0 (record { answers = put_is ∙ ap oneOut said.says; keeps = said.keeps })))))))))))))))))
+        by ! (exits os.0 hs.0 (record { answers = put_is ∙ ap one_out said.says; keeps = said.keeps })))))))))))))))))
 
 module _ {M : Type 1} {𝓤 : Ura M} (𝓛 : Logic 𝓤) (mem : Memory → SProp 𝓤) (run : Routine → Fun 𝓤) (𝓣 : Tables 𝓤 𝓛.H) (queues : Triple 𝓤 (𝓣.C queuing.Symbol.name) (Queued 𝓛 mem run)) (puts : Triple 𝓤 (𝓣.C put.Symbol.name) (Put 𝓛 mem run)) where
   open 𝓛 use {H}

@@ -21,7 +21,7 @@ use denote.Struct.Steps.{spelt}
 use denote.Struct.Laws as LL
 use denote.Triple.Walked.{gave_ref, stay_ref, Goes-gave_ref, Goes-ref}
 use Rattle.model.specs.declared.Line.{Line}
-use Rattle.model.specs.RequestLine.{readLine, stored}
+use Rattle.model.specs.RequestLine.{read_line, stored}
 use Rattle.model.proofs.Line as T
 use Rattle.capi.specs.Calls.{ReadC}
 use Rattle.capi.proofs.read_beside as beside
@@ -95,7 +95,7 @@ module _ {M : Type 1} {𝓤 : Ura M} (𝓛 : Logic 𝓤) (mem : Memory → SProp
 
   -- what is said of the numbers, the lines and the name at the end
   abbrev Says : List ℕ → List Line → List ℕ → Type 0
-  Says os ls bs = ReadC (stored (readLine x.now)) os ls bs
+  Says os ls bs = ReadC (stored (read_line x.now)) os ls bs
 
   abbrev Left : List ℕ → List Line → List ℕ → List (Item 𝓤)
   Left os ls bs = ‵ (fobs s.name (R.coded.code ls)) ∷ ‵ (fbor κ'' (Body (in_memory R) s.ptr.0 s.ptr.1 s.name)) ∷ ‵ (flft κ'' q'')

@@ -18,12 +18,12 @@ use denote.Struct.Laws as LL
 use denote.Triple.Walked.{gave_ref, Goes-gave_ref}
 use Rattle.model.specs.declared.Queue.{Queue}
 use Rattle.model.specs.declared.DeliveryAnswer.{DeliveryAnswer}
-use Rattle.model.specs.Answer.{deliverySays}
-use Rattle.model.specs.Contracts.{RunCall}
+use Rattle.model.specs.Answer.{delivery_says}
+use Rattle.model.specs.Promises.{RunCall}
 use Rattle.model.specs.contracts.Queue as Q
 use Rattle.model.proofs.DeliveryAnswer as R
 use Rattle.queue.proofs.run_delivery as running
-use Rattle.flat.specs.Flat.{twoOut}
+use Rattle.flat.specs.Flat.{two_out}
 use Rattle.flat.proofs.put_delivery as put
 use Rattle.capi.specs.Calls.{RunC}
 use Rattle.capi.proofs.book_run_delivery as book
@@ -182,14 +182,14 @@ module _ {M : Type 1} {𝓤 : Ura M} (𝓛 : Logic 𝓤) (mem : Memory → SProp
         move ! (7 ∷ 6 ∷ []) $ join ! $ move ! (5 ∷ 0 ∷ []) $ use2 𝓛 (raw ((Put 𝓛 mem run).pre (to-put m u))) (goes-put m u is) $
         -- [what `put_delivery` asks; the buffer left; the list left; the numbers left; the tokens of κ, κ', κ'', κ'''; Names; _16; …; _0; …]
         calls_at ! fm (Put 𝓛 mem run) puts (to-put m u) (and_then ! (load ! (from ! (stop !)) (look ! 8 refl)) (and_then ! (load ! (from ! (stop !)) (look ! 6 refl)) (and_then ! (load ! (from ! (stop !)) (look ! 22 refl)) (no_more !)))) (λ v.
-        returned ! tt Toks' Nothing (lasts put.ended (ι, (ι', tt)) (z, (o, (m, tt)))) (λ i zs. (zs.0 ≡ twoOut (deliverySays m.outcome)) × (zs.1.0 ≡ m.orders)) v (id⊢ 𝓤 _) (λ i zs put_is is'.
+        returned ! tt Toks' Nothing (lasts put.ended (ι, (ι', tt)) (z, (o, (m, tt)))) (λ i zs. (zs.0 ≡ two_out (delivery_says m.outcome)) × (zs.1.0 ≡ m.orders)) v (id⊢ 𝓤 _) (λ i zs put_is is'.
         move ! (1 ∷ []) $ fsplit ! $ move ! (1 ∷ []) $ fsplit ! $ move ! (1 ∷ []) $ drop ! $
         -- [the last orders; the last numbers put out; the tokens of ι, ι'; the buffer left; the list left; the numbers left; the tokens of κ, κ', κ'', κ'''; Names; _16; …; _0; …]
         land ! (from ! (stop !)) (init ! 12 refl ((Nothing-Lawful 𝓛).typed i _ is').0) $
         assigns ! (of_opd ! (unit_lit !)) (from ! (stop !)) (init ! 40 refl (tt, tt)) $
         returns ! (look ! 40 refl) $ forget ! 8 refl $ forget ! 10 refl $ forget ! 12 refl $ forget ! 14 refl $ forget ! 16 refl $ forget ! 18 refl $ forget ! 20 refl $ forget ! 22 refl $ forget ! 24 refl $ forget ! 26 refl $ forget ! 28 refl $ forget ! 30 refl $ forget ! 32 refl $ forget ! 34 refl $ forget ! 36 refl $ forget ! 38 refl $ forget ! 40 refl $
         move ! (40 ∷ 41 ∷ []) $ free1 ! $ move ! (38 ∷ 39 ∷ []) $ free1 ! $ move ! (36 ∷ 37 ∷ []) $ free1 ! $ move ! (34 ∷ 35 ∷ []) $ free1 ! $ move ! (32 ∷ 33 ∷ []) $ free1 ! $ move ! (30 ∷ 31 ∷ []) $ free1 ! $ move ! (28 ∷ 29 ∷ []) $ free1 ! $ move ! (26 ∷ 27 ∷ []) $ free1 ! $ move ! (24 ∷ 25 ∷ []) $ free1 ! $ move ! (22 ∷ 23 ∷ []) $ free1 ! $ move ! (20 ∷ 21 ∷ []) $ free1 ! $ move ! (18 ∷ 19 ∷ []) $ free1 ! $ move ! (16 ∷ 17 ∷ []) $ free1 ! $ move ! (14 ∷ 15 ∷ []) $ free1 ! $ move ! (12 ∷ 13 ∷ []) $ free1 ! $ move ! (10 ∷ 11 ∷ []) $ free1 ! $ move ! (8 ∷ 9 ∷ []) $ free1 ! $ free0 ! $
-        by ! (exits ws.0 ws.1.1.0 ws.1.1.1.1.0 zs.0 zs.1.0 (record { answers = put_is.0 ∙ ap twoOut said.says; numbers = put_is.1 ∙ said.orders; leaves = said.leaves; keeps = said.keeps; writes = said.writes }) l l'))))))))))))))))))))))))
+        by ! (exits ws.0 ws.1.1.0 ws.1.1.1.1.0 zs.0 zs.1.0 (record { answers = put_is.0 ∙ ap two_out said.says; numbers = put_is.1 ∙ said.orders; leaves = said.leaves; keeps = said.keeps; writes = said.writes }) l l'))))))))))))))))))))))))
 
 module _ {M : Type 1} {𝓤 : Ura M} (𝓛 : Logic 𝓤) (mem : Memory → SProp 𝓤) (run : Routine → Fun 𝓤) (𝓣 : Tables 𝓤 𝓛.H) (runs : Triple 𝓤 (𝓣.C running.Symbol.name) (Run 𝓛 mem run)) (puts : Triple 𝓤 (𝓣.C put.Symbol.name) (Put 𝓛 mem run)) where
   open 𝓛 use {H}

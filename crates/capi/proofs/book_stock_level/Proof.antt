@@ -1,5 +1,5 @@
 use mathlib.Core.Path.{◌∙◌, ap}
-use Rattle.flat.specs.Flat.{oneOut}
+use Rattle.flat.specs.Flat.{one_out}
 use borrow.Author.Rules.{rules}
 use Rattle.capi.proofs.book_stock_level.Statement.{statement}
 use Rattle.capi.proofs.book_stock_level.Tie as tie
@@ -16,7 +16,7 @@ stock-level-out-requires c κs = search rules
 
 returns : tie.Need-returns
 returns c =
-    record { answers = c.stock-level-out.ensures ∙ ap oneOut c.before.stock-level.ensures.says }
+    record { answers = c.stock-level-out.ensures ∙ ap one_out c.before.stock_level.ensures.says }
 
 pub book-stock-level-spec : {M : Type 1} → statement M
 book-stock-level-spec = tie.close (tie.spec stock-level-requires stock-level-out-requires returns)

@@ -17,11 +17,11 @@ use denote.Triple.Walked.{gave_ref, Goes-gave_ref}
 use Rattle.model.specs.declared.Line.{Line}
 use Rattle.model.specs.declared.Lines.{Lines}
 use Rattle.model.specs.declared.NewOrder.{NewOrder}
-use Rattle.model.specs.Request.{newOrder}
+use Rattle.model.specs.Request.{new_order}
 use Rattle.model.specs.contracts.Line as T
 use Rattle.model.proofs.Lines as L
 use Rattle.model.proofs.NewOrder as Q
-use Rattle.flat.specs.Flat.{newOrderOf}
+use Rattle.flat.specs.Flat.{new_order_of}
 use Rattle.records.specs.Gathered.{Gathered}
 use Rattle.records.proofs.gather as gather
 use Rattle.capi.specs.Calls.{WriteC}
@@ -61,7 +61,7 @@ module _ {M : Type 1} {𝓤 : Ura M} (𝓛 : Logic 𝓤) (mem : Memory → SProp
   zv = vptr z.ptr.0 z.ptr.1
 
   abbrev order : NewOrder
-  order = newOrderOf w k c t
+  order = new_order_of w k c t
 
   abbrev qv : Val
   qv = LL.val Q.the_type Q.TheLaws.the_laws order
@@ -109,7 +109,7 @@ module _ {M : Type 1} {𝓤 : Ura M} (𝓛 : Logic 𝓤) (mem : Memory → SProp
 
   -- what is said of the numbers put out and the buffer that is left, of an order of these lines
   abbrev Says : List Line → List ℕ → List ℕ → Type 0
-  Says ls os bs = WriteC x.now (newOrder order ls) os bs
+  Says ls os bs = WriteC x.now (new_order order ls) os bs
 
   abbrev Left : List ℕ → List ℕ → List (Item 𝓤)
   Left os bs = ‵ (fres z.name ((Array u64 3).coded.code os)) ∷ ‵ (finally u8 x.name bs) ∷ Toks ∷ token κ' q' ∷ ‵ Own ∷ []

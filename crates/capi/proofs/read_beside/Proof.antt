@@ -19,7 +19,7 @@ listed-requires c κs = search rules
 
 returns : tie.Need-returns
 returns c =
-    rw (← c.before.before.before.before.before.read-line.ensures) (record { answers = c.before.before.read_out.ensures; lines_are = c.listed.ensures; name-is = refl })
+    rw (← c.before.before.before.before.before.read-line.ensures) (record { answers = c.before.before.read_out.ensures; lines_are = c.listed.ensures; name_is = refl })
 
 pub read-beside-spec : {M : Type 1} → statement M
 read-beside-spec =

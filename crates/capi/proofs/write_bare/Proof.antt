@@ -1,5 +1,5 @@
 use mathlib.Core.Path.{◌∙◌, ap}
-use Rattle.flat.specs.Flat.{oneOut}
+use Rattle.flat.specs.Flat.{one_out}
 use Rattle.model.specs.Request.{lines_of}
 use borrow.Author.Rules.{rules}
 use Rattle.capi.proofs.write_bare.Statement.{statement}
@@ -30,7 +30,7 @@ same_length c = search rules
 returns : tie.Need-returns
 unfolding lines_of
 returns c =
-    record { answers = c.write-out.ensures ∙ ap oneOut c.before.before.before.write-line.ensures.says; leaves = c.before.before.before.write-line.ensures.leaves }
+    record { answers = c.write-out.ensures ∙ ap one_out c.before.before.before.write-line.ensures.says; leaves = c.before.before.before.write-line.ensures.leaves }
 
 pub write-bare-spec : {M : Type 1} → statement M
 write-bare-spec =

@@ -1,8 +1,8 @@
 use mathlib.Core.Path.{◌∙◌, ap}
 use native.Mathlib.Nat.{sub-zero}
 use Rattle.model.specs.declared.WriteAnswer.{WriteAnswer}
-use Rattle.model.specs.RequestLine.{writeSays}
-use Rattle.flat.specs.Flat.{oneOut}
+use Rattle.model.specs.RequestLine.{write_says}
+use Rattle.flat.specs.Flat.{one_out}
 use Rattle.capi.proofs.Orders.{too_many, in_array, as_many}
 use borrow.Author.Rules.{rules}
 use Rattle.capi.proofs.write_order.Statement.{statement}
@@ -22,7 +22,7 @@ write-out-requires c κs = search rules
 returns : tie.Need-returns
 returns c lines g =
     let w = too_many _ _ _ lines c.before.before.if1.true g in
-    record { answers = c.write-out.ensures ∙ ap (λ (a : WriteAnswer). oneOut (writeSays a.outcome)) c.before.not_written.ensures ∙ ap oneOut w.says; leaves = w.leaves }
+    record { answers = c.write-out.ensures ∙ ap (λ (a : WriteAnswer). one_out (write_says a.outcome)) c.before.not_written.ensures ∙ ap one_out w.says; leaves = w.leaves }
 
 sub-write-line : tie.Need-overflow-sub-write-line
 sub-write-line c = search rules
@@ -76,7 +76,7 @@ returns-2 : tie.Need-returns-2
 returns-2 c lines g =
     let u = rw sub-zero at c.before.before.before.write-line.ensures in
     let w = as_many _ _ _ _ _ lines c.before.before.before.before.before.before.before.before.before.before.before.before.before.before.before.before.if1.false g u in
-    record { answers = c.write-out2.ensures ∙ ap oneOut w.says; leaves = w.leaves }
+    record { answers = c.write-out2.ensures ∙ ap one_out w.says; leaves = w.leaves }
 
 pub write-order-spec : {M : Type 1} → statement M
 write-order-spec =

@@ -1,4 +1,4 @@
-use Rattle.cells.proofs.Signed.{tested, cast-asks, rest-fits, rest-cast, rest-small, rest-bits, own_bits}
+use Rattle.cells.proofs.Signed.{tested, cast_asks, rest-fits, rest_cast, rest_small, rest_bits, own_bits}
 use Rattle.cells.proofs.bits_of.Statement.{statement}
 use Rattle.cells.proofs.bits_of.Tie as tie
 use Rattle.cells.proofs.bits_of.Reads as reads
@@ -8,16 +8,16 @@ sub-n : tie.Need-overflow-sub-n
 sub-n c = rest-fits _ c.before.ranges.x (tested _ c.before.ranges.x c.if1.true)
 
 cast-n : tie.Need-overflow-cast-n
-cast-n c = rest-cast _ c.before.ranges.x (tested _ c.before.ranges.x c.if1.true)
+cast-n c = rest_cast _ c.before.ranges.x (tested _ c.before.ranges.x c.if1.true)
 
 sub-result : tie.Need-overflow-sub-result
-sub-result c = rest-small _ c.before.ranges.x (tested _ c.before.ranges.x c.if1.true)
+sub-result c = rest_small _ c.before.ranges.x (tested _ c.before.ranges.x c.if1.true)
 
 returns : tie.Need-returns
-returns c = rest-bits _ c.before.ranges.x (tested _ c.before.ranges.x c.if1.true)
+returns c = rest_bits _ c.before.ranges.x (tested _ c.before.ranges.x c.if1.true)
 
 cast-result : tie.Need-overflow-cast-result
-cast-result c = cast-asks _ c.before.ranges.x (tested _ c.before.ranges.x c.if1.false)
+cast-result c = cast_asks _ c.before.ranges.x (tested _ c.before.ranges.x c.if1.false)
 
 returns-2 : tie.Need-returns-2
 returns-2 c = own_bits _ c.before.ranges.x (tested _ c.before.ranges.x c.if1.false)

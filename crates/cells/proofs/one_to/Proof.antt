@@ -1,6 +1,6 @@
 use Rattle.std.proofs.Common.{sym, ◌∙◌, rules}
 use Rattle.model.specs.Numbers.{cell}
-use Rattle.cells.proofs.Signed.{held, bits-nat, bits-tested}
+use Rattle.cells.proofs.Signed.{held, bits_nat, bits_tested}
 use Rattle.cells.proofs.one_to.Statement.{statement}
 use Rattle.cells.proofs.one_to.Tie as tie
 use Rattle.cells.proofs.one_to.Reads as reads
@@ -19,7 +19,7 @@ bits-of-requires c κs = search rules
 returns : tie.Need-returns
 unfolding cell
 returns c =
-    bits-tested _ c.bits_of.result _ c.before.before.requires.1 (bits-nat _ c.bits_of.result (sym (held c.before.bits-of-arg.given) ∙ c.bits_of.ensures))
+    bits_tested _ c.bits_of.result _ c.before.before.requires.1 (bits_nat _ c.bits_of.result (sym (held c.before.bits-of-arg.given) ∙ c.bits_of.ensures))
 
 pub one-to-spec : {M : Type 1} → statement M
 one-to-spec =

@@ -1,8 +1,8 @@
 use lib.ListN.{length, take}
 use borrow.Author.Tests.{not-true, not-false}
 use Rattle.model.specs.Request.{lent}
-use Rattle.desk.proofs.Telling.{written-part}
-use Rattle.desk.proofs.Blocks.{FedUpTo, none-fed, line-fed, block-fed, closed-fed, left-line}
+use Rattle.desk.proofs.Telling.{written_part}
+use Rattle.desk.proofs.Blocks.{FedUpTo, none_fed, line_fed, block_fed, closed_fed, left-line}
 use Prim.Native.Nat.{◌-◌}
 use mathlib.Core.Path.{◌≡◌}
 use native.Mathlib.Omega.{arith}
@@ -24,7 +24,7 @@ decreases-loop b₀ names last₀ notes₀ topup line₀ len block out₀ n₀ a
 
 loop-holds : tie.Need-loop-init invariant-loop decreases-loop
 loop-holds c =
-    (search rules, (search rules, (search rules, (search rules, none-fed _ _ _ _ (c.before.before.before.before.requires)))))
+    (search rules, (search rules, (search rules, (search rules, none_fed _ _ _ _ (c.before.before.before.before.requires)))))
 
 cut-requires : tie.Need-cut-requires invariant-loop decreases-loop
 cut-requires c κs = search rules
@@ -43,7 +43,7 @@ same-length-4 c = search rules
 
 returns : tie.Need-returns invariant-loop decreases-loop
 returns c =
-    block-fed _ _ _ _ _ _ _ _ _ _ _ c.before.before.before.before.before.before.loop.invariant.1.1.1.1 c.before.before.before.before.cut.ensures (not-true c.before.before.before.before.cut.result.ended c.if1.true)
+    block_fed _ _ _ _ _ _ _ _ _ _ _ c.before.before.before.before.before.before.loop.invariant.1.1.1.1 c.before.before.before.before.cut.ensures (not-true c.before.before.before.before.cut.result.ended c.if1.true)
 
 sub-step : tie.Need-overflow-sub-step invariant-loop decreases-loop
 sub-step c = search rules
@@ -68,7 +68,7 @@ part-put-start c = search rules
 
 part-put-end : tie.Need-slice-bounds-put-end invariant-loop decreases-loop
 part-put-end c =
-    written-part _ _ _ _ _ _ c.before.before.before.before.before.before.step.ensures
+    written_part _ _ _ _ _ _ c.before.before.before.before.before.before.step.ensures
 
 put-requires : tie.Need-put-requires invariant-loop decreases-loop
 put-requires c κs = search rules
@@ -87,7 +87,7 @@ same-length-8 c = search rules
 
 returns-2 : tie.Need-returns-2 invariant-loop decreases-loop
 returns-2 c =
-    closed-fed _ _ _ _ _ _ _ (line-fed _ _ _ _ _ _ _ _ _ _ _ c.before.before.before.before.before.before.before.before.before.before.before.before.before.before.before.before.before.before.before.before.before.before.loop.invariant.1.1.1.1 c.before.before.before.before.before.before.before.before.before.before.before.before.before.before.before.before.before.before.before.before.cut.ensures _ (not-false c.before.before.before.before.before.before.before.before.before.before.before.before.before.before.before.before.before.before.before.before.cut.result.ended c.before.before.before.before.before.before.before.before.before.before.before.before.before.before.before.before.if1.false) (left-line _ _ c.before.before.before.before.before.before.before.before.before.before.before.before.before.before.before.before.before.before.before.before.cut.new.0 _ _ c.before.before.before.before.before.before.before.before.before.before.before.before.before.before.before.before.before.before.before.before.cut.result.len _ c.before.before.before.before.before.before.before.before.before.before.before.before.before.before.before.before.before.before.before.before.before.before.loop.invariant.1.1.1.0 c.before.before.before.before.before.before.before.before.before.step.ensures) (search rules))
+    closed_fed _ _ _ _ _ _ _ (line_fed _ _ _ _ _ _ _ _ _ _ _ c.before.before.before.before.before.before.before.before.before.before.before.before.before.before.before.before.before.before.before.before.before.before.loop.invariant.1.1.1.1 c.before.before.before.before.before.before.before.before.before.before.before.before.before.before.before.before.before.before.before.before.cut.ensures _ (not-false c.before.before.before.before.before.before.before.before.before.before.before.before.before.before.before.before.before.before.before.before.cut.result.ended c.before.before.before.before.before.before.before.before.before.before.before.before.before.before.before.before.if1.false) (left-line _ _ c.before.before.before.before.before.before.before.before.before.before.before.before.before.before.before.before.before.before.before.before.cut.new.0 _ _ c.before.before.before.before.before.before.before.before.before.before.before.before.before.before.before.before.before.before.before.before.cut.result.len _ c.before.before.before.before.before.before.before.before.before.before.before.before.before.before.before.before.before.before.before.before.before.before.loop.invariant.1.1.1.0 c.before.before.before.before.before.before.before.before.before.step.ensures) (search rules))
 
 loop-less : tie.Need-loop-smaller invariant-loop decreases-loop
 loop-less c =
@@ -95,7 +95,7 @@ loop-less c =
 
 loop-again : tie.Need-loop-preserved invariant-loop decreases-loop
 loop-again c =
-    (search rules, (search rules, (search rules, (search rules, line-fed _ _ _ _ _ _ _ _ _ _ _ c.before.before.before.before.before.before.before.before.before.before.before.before.before.before.before.before.before.before.before.before.before.before.loop.invariant.1.1.1.1 c.before.before.before.before.before.before.before.before.before.before.before.before.before.before.before.before.before.before.before.before.cut.ensures _ (not-false c.before.before.before.before.before.before.before.before.before.before.before.before.before.before.before.before.before.before.before.before.cut.result.ended c.before.before.before.before.before.before.before.before.before.before.before.before.before.before.before.before.if1.false) (left-line _ _ c.before.before.before.before.before.before.before.before.before.before.before.before.before.before.before.before.before.before.before.before.cut.new.0 _ _ c.before.before.before.before.before.before.before.before.before.before.before.before.before.before.before.before.before.before.before.before.cut.result.len _ c.before.before.before.before.before.before.before.before.before.before.before.before.before.before.before.before.before.before.before.before.before.before.loop.invariant.1.1.1.0 c.before.before.before.before.before.before.before.before.before.step.ensures) (search rules)))))
+    (search rules, (search rules, (search rules, (search rules, line_fed _ _ _ _ _ _ _ _ _ _ _ c.before.before.before.before.before.before.before.before.before.before.before.before.before.before.before.before.before.before.before.before.before.before.loop.invariant.1.1.1.1 c.before.before.before.before.before.before.before.before.before.before.before.before.before.before.before.before.before.before.before.before.cut.ensures _ (not-false c.before.before.before.before.before.before.before.before.before.before.before.before.before.before.before.before.before.before.before.before.cut.result.ended c.before.before.before.before.before.before.before.before.before.before.before.before.before.before.before.before.if1.false) (left-line _ _ c.before.before.before.before.before.before.before.before.before.before.before.before.before.before.before.before.before.before.before.before.cut.new.0 _ _ c.before.before.before.before.before.before.before.before.before.before.before.before.before.before.before.before.before.before.before.before.cut.result.len _ c.before.before.before.before.before.before.before.before.before.before.before.before.before.before.before.before.before.before.before.before.before.before.loop.invariant.1.1.1.0 c.before.before.before.before.before.before.before.before.before.step.ensures) (search rules)))))
 
 pub feed-spec : {M : Type 1} → statement M
 feed-spec =

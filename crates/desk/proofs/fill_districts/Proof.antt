@@ -3,23 +3,23 @@ use mathlib.Core.Path.{◌≡◌}
 use Prim.Native.Nat.{◌-◌, ◌≤◌}
 use native.Mathlib.Omega.{arith}
 use lib.ListN.{length, length-set}
-use Rattle.desk.specs.Filling.{districtsTo}
-use Rattle.desk.proofs.Filled.{districts-none, districts-step}
-use Rattle.model.proofs.ListLaws.{at-end}
+use Rattle.desk.specs.Filling.{districts_to}
+use Rattle.desk.proofs.Filled.{districts_none, districts_step}
+use Rattle.model.proofs.ListLaws.{at_end}
 use Rattle.desk.proofs.fill_districts.Statement.{statement}
 use Rattle.desk.proofs.fill_districts.Tie as tie
 use Rattle.desk.proofs.fill_districts.Reads as reads
 use Rattle.desk.proofs.fill_districts.Lts as lts
 
 abbrev invariant-loop : tie.invariant-loop
-invariant-loop b₀ k₀ b k = (k ≤ 10) × ((length b ≡ length b₀) × (b ≡ districtsTo k b₀))
+invariant-loop b₀ k₀ b k = (k ≤ 10) × ((length b ≡ length b₀) × (b ≡ districts_to k b₀))
 
 abbrev decreases-loop : tie.decreases-loop
 decreases-loop b₀ k₀ b k = 10 - k
 
 loop-holds : tie.Need-loop-init invariant-loop decreases-loop
 loop-holds c =
-    (search rules, (search rules, districts-none _))
+    (search rules, (search rules, districts_none _))
 
 mul-b : tie.Need-overflow-mul-b invariant-loop decreases-loop
 mul-b c = search rules
@@ -67,14 +67,14 @@ loop-less c = search rules
 
 loop-again : tie.Need-loop-preserved invariant-loop decreases-loop
 loop-again c =
-    (search rules, (simp length-set c.before.loop.invariant.1.0, rw (districts-step, ← c.before.loop.invariant.1.1)))
+    (search rules, (simp length-set c.before.loop.invariant.1.0, rw (districts_step, ← c.before.loop.invariant.1.1)))
 
 same_length : tie.Need-same-length invariant-loop decreases-loop
 same_length c = search rules
 
 returns : tie.Need-returns invariant-loop decreases-loop
 returns c =
-    at-end (λ k. districtsTo k c.before.before.args.b.now) c.before.loop.invariant.0 c.loop-test.false c.before.loop.invariant.1.1
+    at_end (λ k. districts_to k c.before.before.args.b.now) c.before.loop.invariant.0 c.loop-test.false c.before.loop.invariant.1.1
 
 pub fill-districts-spec : {M : Type 1} → statement M
 fill-districts-spec =

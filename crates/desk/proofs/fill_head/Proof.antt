@@ -1,7 +1,7 @@
 use native.Mathlib.Omega.{arith}
 use mathlib.Core.Path.{refl}
 use lib.ListN.{length-set}
-use Rattle.desk.specs.Filling.{headTo}
+use Rattle.desk.specs.Filling.{head_to}
 use borrow.Author.Rules.{rules}
 use Rattle.desk.proofs.fill_head.Statement.{statement}
 use Rattle.desk.proofs.fill_head.Tie as tie
@@ -35,7 +35,7 @@ same_length : tie.Need-same-length
 same_length c = search rules
 
 returns : tie.Need-returns
-unfolding headTo
+unfolding head_to
 returns c =
     refl
 

@@ -5,8 +5,8 @@ use Prim.Native.Nat.{◌-◌, ◌≤◌}
 use native.Mathlib.Omega.{arith}
 use lib.ListN.{length, length-set}
 use lib.ListN.{replicate}
-use Rattle.desk.specs.Filling.{twoNames, namesTo}
-use Rattle.desk.proofs.Filled.{names-none, names-step, names-filled}
+use Rattle.desk.specs.Filling.{two_names, names_to}
+use Rattle.desk.proofs.Filled.{names-none, names-step, names_filled}
 use Rattle.desk.proofs.fill_names.Statement.{statement}
 use Rattle.desk.proofs.fill_names.Tie as tie
 use Rattle.desk.proofs.fill_names.Reads as reads
@@ -14,7 +14,7 @@ use Rattle.desk.proofs.fill_names.Lts as lts
 use Rattle.desk.proofs.two_names.Reads as two-names-reads
 
 abbrev invariant-loop : tie.invariant-loop
-invariant-loop names₀ text i₀ names i = (i ≤ 640) × ((length names ≡ 640) × ((text ≡ twoNames) × ((length text ≡ 64) × ((names ≡ namesTo twoNames i names₀) × (names₀ ≡ replicate 640 0)))))
+invariant-loop names₀ text i₀ names i = (i ≤ 640) × ((length names ≡ 640) × ((text ≡ two_names) × ((length text ≡ 64) × ((names ≡ names_to two_names i names₀) × (names₀ ≡ replicate 640 0)))))
 
 abbrev decreases-loop : tie.decreases-loop
 decreases-loop names₀ text i₀ names i = 640 - i
@@ -47,7 +47,7 @@ same_length c = search rules
 
 returns : tie.Need-returns invariant-loop decreases-loop
 returns c =
-    let e : c.before.loop.i ≡ 640 = omega (arith, c.before.loop.invariant.0, c.loop-test.false) in c.before.loop.invariant.1.1.1.1.0 ∙ rw (e, c.before.loop.invariant.1.1.1.1.1) names-filled
+    let e : c.before.loop.i ≡ 640 = omega (arith, c.before.loop.invariant.0, c.loop-test.false) in c.before.loop.invariant.1.1.1.1.0 ∙ rw (e, c.before.loop.invariant.1.1.1.1.1) names_filled
 
 pub fill-names-spec : {M : Type 1} → statement M
 fill-names-spec =

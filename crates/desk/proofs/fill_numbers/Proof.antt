@@ -1,7 +1,7 @@
 use native.Mathlib.Omega.{arith}
 use mathlib.Core.Path.{◌≡◌, ap}
 use lib.ListN.{length}
-use Rattle.desk.proofs.Filled.{numbers-filled}
+use Rattle.desk.proofs.Filled.{numbers_filled}
 use borrow.Author.Rules.{rules}
 use Rattle.desk.proofs.fill_numbers.Statement.{statement}
 use Rattle.desk.proofs.fill_numbers.Tie as tie
@@ -33,7 +33,7 @@ same_length c = search rules
 
 returns : tie.Need-returns
 returns c =
-    rw (c.before.fill-stocks.ensures, c.before.before.before.before.fill-prices.ensures, c.before.before.before.before.before.before.before.fill-districts.ensures, c.before.before.before.before.before.before.before.before.before.before.fill-head.ensures, c.before.before.before.before.before.before.before.before.before.before.before.before.requires) numbers-filled
+    rw (c.before.fill-stocks.ensures, c.before.before.before.before.fill-prices.ensures, c.before.before.before.before.before.before.before.fill-districts.ensures, c.before.before.before.before.before.before.before.before.before.before.fill-head.ensures, c.before.before.before.before.before.before.before.before.before.before.before.before.requires) numbers_filled
 
 pub fill-numbers-spec : {M : Type 1} → statement M
 fill-numbers-spec =

@@ -1,7 +1,7 @@
 use native.Mathlib.Omega.{arith}
 use mathlib.Core.Path.{refl}
 use lib.ListN.{length-set}
-use Rattle.desk.specs.Filling.{pricesTo}
+use Rattle.desk.specs.Filling.{prices_to}
 use borrow.Author.Rules.{rules}
 use Rattle.desk.proofs.fill_prices.Statement.{statement}
 use Rattle.desk.proofs.fill_prices.Tie as tie
@@ -27,7 +27,7 @@ same_length : tie.Need-same-length
 same_length c = search rules
 
 returns : tie.Need-returns
-unfolding pricesTo
+unfolding prices_to
 returns c =
     refl
 

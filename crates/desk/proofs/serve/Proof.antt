@@ -1,7 +1,7 @@
 use lib.ListN.{length}
 use Rattle.model.specs.Request.{lent}
-use Rattle.desk.proofs.Telling.{written-part}
-use Rattle.desk.proofs.Blocks.{left-line, ServedUpTo, none-served, block-served, input-served, last-served}
+use Rattle.desk.proofs.Telling.{written_part}
+use Rattle.desk.proofs.Blocks.{left-line, ServedUpTo, none-served, block_served, input-served, last-served}
 use mathlib.Core.Path.{◌≡◌}
 use borrow.Author.Rules.{rules}
 use Rattle.desk.proofs.serve.Statement.{statement}
@@ -66,7 +66,7 @@ part-put-start c = search rules
 
 part-put-end : tie.Need-slice-bounds-put-end invariant-loop decreases-loop
 part-put-end c =
-    written-part _ _ _ _ _ _ c.before.before.before.before.before.before.step.ensures
+    written_part _ _ _ _ _ _ c.before.before.before.before.before.before.step.ensures
 
 put-requires : tie.Need-put-requires invariant-loop decreases-loop
 put-requires c κs = search rules
@@ -123,7 +123,7 @@ same-length-12 c = search rules
 
 returns-4 : tie.Need-returns-4 invariant-loop decreases-loop
 returns-4 c =
-    input-served _ _ _ _ (block-served _ _ _ _ _ _ _ _ _ _ c.before.before.before.before.before.before.before.before.before.before.before.before.before.before.before.before.before.before.before.loop.invariant.1.1.1.1 c.before.before.before.before.before.before.feed.ensures (search rules))
+    input-served _ _ _ _ (block_served _ _ _ _ _ _ _ _ _ _ c.before.before.before.before.before.before.before.before.before.before.before.before.before.before.before.before.before.before.before.loop.invariant.1.1.1.1 c.before.before.before.before.before.before.feed.ensures (search rules))
 
 sub-turns : tie.Need-overflow-sub-turns invariant-loop decreases-loop
 sub-turns c = search rules
@@ -133,7 +133,7 @@ loop-less c = search rules
 
 loop-again : tie.Need-loop-preserved invariant-loop decreases-loop
 loop-again c =
-    (search rules, (search rules, (search rules, (search rules, block-served _ _ _ _ _ _ _ _ _ _ c.before.before.before.before.before.before.before.before.before.before.before.before.before.before.before.before.before.before.before.loop.invariant.1.1.1.1 c.before.before.before.before.before.before.feed.ensures (search rules)))))
+    (search rules, (search rules, (search rules, (search rules, block_served _ _ _ _ _ _ _ _ _ _ c.before.before.before.before.before.before.before.before.before.before.before.before.before.before.before.before.before.before.before.loop.invariant.1.1.1.1 c.before.before.before.before.before.before.feed.ensures (search rules)))))
 
 same-length-13 : tie.Need-same-length-13 invariant-loop decreases-loop
 same-length-13 c = search rules

@@ -1,5 +1,5 @@
 use mathlib.Core.Path.{refl}
-use Rattle.desk.proofs.Telling.{stepped-nothing, stepped-none, stepped-read, read_held}
+use Rattle.desk.proofs.Telling.{stepped_nothing, stepped_none, stepped_read, read_held}
 use native.Mathlib.Omega.{arith}
 use borrow.Author.Rules.{rules}
 use Rattle.desk.proofs.step.Statement.{statement}
@@ -13,7 +13,7 @@ use Rattle.lines.proofs.read_line.Reads as read-line-reads
 
 returns : tie.Need-returns
 returns c =
-    stepped-nothing _ _ _ c.if1.true
+    stepped_nothing _ _ _ c.if1.true
 
 read-line-requires : tie.Need-read-line-requires
 read-line-requires c κs = search rules
@@ -104,14 +104,14 @@ same-length-4 c = search rules
 
 returns-2 : tie.Need-returns-2
 returns-2 c =
-    stepped-read _ _ _ _ _ _ c.before.before.before.before.before.before.before.before.before.before.before.before.before.before.before.before.before.before.before.before.before.before.before.before.before.before.before.before.before.before.before.before.before.before.before.if1.false c.before.before.before.before.before.before.before.before.before.before.before.before.before.before.before.before.before.before.before.before.before.before.before.before.before.before.before.before.before.before.before.before.before.before.read-line.result _ c.before.before.before.before.before.before.before.before.before.before.before.before.before.before.before.before.before.before.before.before.before.before.before.before.before.before.before.before.before.before.before.before.before.before.read-line.ensures c.before.before.before.before.before.before.before.before.before.before.before.before.before.before.before.before.before.before.before.before.before.before.before.before.before.before.before.before.before.before.before.before.o.given.1 c.before.before.before.before.before.before.before.before.before.before.before.before.before.carry-out.result c.before.before.before.before.before.before.before.before.before.before.before.before.before.carry-out.ensures c.before.before.write-answer.ensures
+    stepped_read _ _ _ _ _ _ c.before.before.before.before.before.before.before.before.before.before.before.before.before.before.before.before.before.before.before.before.before.before.before.before.before.before.before.before.before.before.before.before.before.before.before.if1.false c.before.before.before.before.before.before.before.before.before.before.before.before.before.before.before.before.before.before.before.before.before.before.before.before.before.before.before.before.before.before.before.before.before.before.read-line.result _ c.before.before.before.before.before.before.before.before.before.before.before.before.before.before.before.before.before.before.before.before.before.before.before.before.before.before.before.before.before.before.before.before.before.before.read-line.ensures c.before.before.before.before.before.before.before.before.before.before.before.before.before.before.before.before.before.before.before.before.before.before.before.before.before.before.before.before.before.before.before.before.o.given.1 c.before.before.before.before.before.before.before.before.before.before.before.before.before.carry-out.result c.before.before.before.before.before.before.before.before.before.before.before.before.before.carry-out.ensures c.before.before.write-answer.ensures
 
 same-length-5 : tie.Need-same-length-5
 same-length-5 c = search rules
 
 returns-3 : tie.Need-returns-3
 returns-3 c =
-    stepped-none _ _ _ _ _ _ c.before.before.before.before.before.before.before.if1.false c.before.before.before.before.before.before.read-line.result _ c.before.before.before.before.before.before.read-line.ensures c.before.before.before.before.enum_told.given.1 refl c.before.before.write-no-form.ensures
+    stepped_none _ _ _ _ _ _ c.before.before.before.before.before.before.before.if1.false c.before.before.before.before.before.before.read-line.result _ c.before.before.before.before.before.before.read-line.ensures c.before.before.before.before.enum_told.given.1 refl c.before.before.write-no-form.ensures
 
 pub step_spec : {M : Type 1} → statement M
 step_spec =

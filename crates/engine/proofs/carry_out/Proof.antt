@@ -47,7 +47,7 @@ same-length-2 c = search rules
 
 returns : tie.Need-returns
 returns c =
-    rw c.before.before.before.before.before.before.form.given.1 (c.before.before.new-order.ensures c.before.before.before.before.before.before.before.before.before.before.before.before.before.before.args.notes.now)
+    rw c.before.before.before.before.before.before.form.given.1 (c.before.before.new_order.ensures c.before.before.before.before.before.before.before.before.before.before.before.before.before.before.args.notes.now)
 
 same-length-3 : tie.Need-same-length-3
 same-length-3 c = search rules
@@ -74,14 +74,14 @@ same-length-7 c = search rules
 
 returns-4 : tie.Need-returns-4
 returns-4 c =
-    rw c.before.before.before.before.form4.given.1 (c.order-status.ensures c.before.before.before.before.before.before.before.before.before.before.before.before.args.notes.now c.before.before.before.before.before.before.before.before.before.before.before.before.args.topup.now)
+    rw c.before.before.before.before.form4.given.1 (c.order_status.ensures c.before.before.before.before.before.before.before.before.before.before.before.before.args.notes.now c.before.before.before.before.before.before.before.before.before.before.before.before.args.topup.now)
 
 same-length-8 : tie.Need-same-length-8
 same-length-8 c = search rules
 
 returns-5 : tie.Need-returns-5
 returns-5 c =
-    rw c.before.before.before.form5.given.1 (c.stock-level.ensures c.before.before.before.before.before.before.before.before.before.before.before.args.last.now c.before.before.before.before.before.before.before.before.before.before.before.args.notes.now c.before.before.before.before.before.before.before.before.before.before.before.args.topup.now)
+    rw c.before.before.before.form5.given.1 (c.stock_level.ensures c.before.before.before.before.before.before.before.before.before.before.before.args.last.now c.before.before.before.before.before.before.before.before.before.before.before.args.notes.now c.before.before.before.before.before.before.before.before.before.before.before.args.topup.now)
 
 pub carry-out-spec : {M : Type 1} → statement M
 carry-out-spec =

@@ -1,5 +1,5 @@
 use mathlib.Core.Path.{refl}
-use Rattle.model.specs.Request.{answer_of, ordersOf, shownPart, numsAfter, lastAfter, notesAfter}
+use Rattle.model.specs.Request.{answer_of, orders_of, shown_part, nums_after, last_after, notes_after}
 use borrow.Author.Rules.{rules}
 use Rattle.engine.proofs.delivery.Statement.{statement}
 use Rattle.engine.proofs.delivery.Tie as tie
@@ -14,7 +14,7 @@ same_length : tie.Need-same-length
 same_length c = search rules
 
 returns : tie.Need-returns
-unfolding answer_of ordersOf shownPart numsAfter lastAfter notesAfter
+unfolding answer_of orders_of shown_part nums_after last_after notes_after
 returns c last notes topup =
     record { kind = refl; says = c.before.before.delivery.ensures.says; orders = c.before.before.delivery.ensures.orders; within = search rules; shows = refl; leaves = rw c.before.before.delivery.ensures.leaves }
 

@@ -1,5 +1,5 @@
 use mathlib.Core.Path.{refl}
-use Rattle.model.specs.Request.{answer_of, ordersOf, shownPart, numsAfter, lastAfter, notesAfter}
+use Rattle.model.specs.Request.{answer_of, orders_of, shown_part, nums_after, last_after, notes_after}
 use borrow.Author.Rules.{rules}
 use Rattle.engine.proofs.order_status.Statement.{statement}
 use Rattle.engine.proofs.order_status.Tie as tie
@@ -11,7 +11,7 @@ status-shown-requires : tie.Need-status-shown-requires
 status-shown-requires c κs = search rules
 
 returns : tie.Need-returns
-unfolding answer_of ordersOf shownPart numsAfter lastAfter notesAfter
+unfolding answer_of orders_of shown_part nums_after last_after notes_after
 returns c notes topup =
     record { kind = refl; says = c.before.status-shown.ensures.says; orders = refl; within = c.before.status-shown.ensures.within; shows = c.before.status-shown.ensures.shows; leaves = refl }
 

@@ -1,5 +1,5 @@
 use mathlib.Core.Path.{refl}
-use Rattle.model.specs.Request.{answer_of, ordersOf, shownPart, numsAfter, lastAfter, notesAfter}
+use Rattle.model.specs.Request.{answer_of, orders_of, shown_part, nums_after, last_after, notes_after}
 use borrow.Author.Rules.{rules}
 use Rattle.engine.proofs.payment.Statement.{statement}
 use Rattle.engine.proofs.payment.Tie as tie
@@ -17,7 +17,7 @@ same-length-2 : tie.Need-same-length-2
 same-length-2 c = search rules
 
 returns : tie.Need-returns
-unfolding answer_of ordersOf shownPart numsAfter lastAfter notesAfter
+unfolding answer_of orders_of shown_part nums_after last_after notes_after
 returns c last topup =
     record { kind = refl; says = c.before.before.before.payment.ensures.says; orders = refl; within = search rules; shows = refl; leaves = rw (c.before.before.before.payment.ensures.leaves, c.before.before.before.payment.ensures.writes) }
 

@@ -1,4 +1,4 @@
-use Rattle.last_orders.proofs.Fitting.{note-at}
+use Rattle.last_orders.proofs.Fitting.{note_at}
 use Rattle.std.proofs.Common.{rules}
 use Rattle.last_orders.proofs.note.Statement.{statement}
 use Rattle.last_orders.proofs.note.Tie as tie
@@ -18,7 +18,7 @@ same_length c = search rules
 
 returns : tie.Need-returns
 returns c =
-    note-at c.before.before.before.before.args.d c.before.before.before.before.args.last.now c.before.before.before.before.args.w c.before.before.before.before.args.k c.before.before.before.before.args.c c.before.before.before.of-customer.ensures.0 c.before.before.before.before.args.order c.before.put.ensures
+    note_at c.before.before.before.before.args.d c.before.before.before.before.args.last.now c.before.before.before.before.args.w c.before.before.before.before.args.k c.before.before.before.before.args.c c.before.before.before.of-customer.ensures.0 c.before.before.before.before.args.order c.before.put.ensures
 
 pub note-spec : {M : Type 1} → statement M
 note-spec = tie.close (tie.spec of-customer-requires put-requires same_length returns)

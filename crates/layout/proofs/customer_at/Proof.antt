@@ -1,4 +1,4 @@
-use Rattle.layout.proofs.Bounds.{customer-is, customer-block}
+use Rattle.layout.proofs.Bounds.{customer-is, customer_block}
 use native.Mathlib.Omega.{arith}
 use borrow.Author.Rules.{rules}
 use Rattle.layout.proofs.customer_at.Statement.{statement}
@@ -20,7 +20,7 @@ add-block c = search rules
 
 mul-block-2 : tie.Need-overflow-mul-block-2
 mul-block-2 c =
-    omega (arith, customer-block c.before.args.d c.before.requires.0 c.before.args.w c.before.args.k c.before.requires.1.0 c.before.requires.1.1.0)
+    omega (arith, customer_block c.before.args.d c.before.requires.0 c.before.args.w c.before.args.k c.before.requires.1.0 c.before.requires.1.1.0)
 
 mul-result : tie.Need-overflow-mul-result
 mul-result c = search rules
@@ -39,15 +39,15 @@ sub-result c = search rules
 
 add-result-3 : tie.Need-overflow-add-result-3
 add-result-3 c =
-    omega (arith, customer-block c.before.before.before.args.d c.before.before.before.requires.0 c.before.before.before.args.w c.before.before.before.args.k c.before.before.before.requires.1.0 c.before.before.before.requires.1.1.0)
+    omega (arith, customer_block c.before.before.before.args.d c.before.before.before.requires.0 c.before.before.before.args.w c.before.before.before.args.k c.before.before.before.requires.1.0 c.before.before.before.requires.1.1.0)
 
 mul-result-3 : tie.Need-overflow-mul-result-3
 mul-result-3 c =
-    omega (arith, customer-block c.before.before.before.args.d c.before.before.before.requires.0 c.before.before.before.args.w c.before.before.before.args.k c.before.before.before.requires.1.0 c.before.before.before.requires.1.1.0)
+    omega (arith, customer_block c.before.before.before.args.d c.before.before.before.requires.0 c.before.before.before.args.w c.before.before.before.args.k c.before.before.before.requires.1.0 c.before.before.before.requires.1.1.0)
 
 add-result-4 : tie.Need-overflow-add-result-4
 add-result-4 c =
-    omega (arith, customer-block c.before.before.before.args.d c.before.before.before.requires.0 c.before.before.before.args.w c.before.before.before.args.k c.before.before.before.requires.1.0 c.before.before.before.requires.1.1.0)
+    omega (arith, customer_block c.before.before.before.args.d c.before.before.before.requires.0 c.before.before.before.args.w c.before.before.before.args.k c.before.before.before.requires.1.0 c.before.before.before.requires.1.1.0)
 
 returns : tie.Need-returns
 returns c =

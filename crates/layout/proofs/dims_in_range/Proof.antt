@@ -1,4 +1,4 @@
-use Rattle.model.specs.Head.{dimsTests}
+use Rattle.model.specs.Head.{dims_tests}
 use Rattle.model.proofs.TestLaws.{and_same}
 use borrow.Author.Rules.{rules}
 use Rattle.layout.proofs.dims_in_range.Statement.{statement}
@@ -23,7 +23,7 @@ within-requires-5 : tie.Need-within-requires-5
 within-requires-5 c κs = search rules
 
 returns : tie.Need-returns
-unfolding dimsTests
+unfolding dims_tests
 returns c =
     and_same (and_same (and_same (and_same c.before.before.before.before.within.ensures c.before.before.before.within2.ensures) c.before.before.within3.ensures) c.before.within4.ensures) c.within5.ensures
 

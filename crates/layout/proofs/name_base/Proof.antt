@@ -1,4 +1,4 @@
-use Rattle.model.proofs.NameLaws.{name-first, names-end, names-max}
+use Rattle.model.proofs.NameLaws.{name-first, names_end, names_max}
 use Prim.Native.Nat.{◌-◌}
 use native.Mathlib.Omega.{arith}
 use borrow.Author.Rules.{rules}
@@ -21,15 +21,15 @@ add-district c = search rules
 
 mul-first : tie.Need-overflow-mul-first
 mul-first c =
-    omega (arith, names-max c.before.args.d c.before.args.w c.before.args.k c.before.requires.0 c.before.requires.1.0 c.before.requires.1.1)
+    omega (arith, names_max c.before.args.d c.before.args.w c.before.args.k c.before.requires.0 c.before.requires.1.0 c.before.requires.1.1)
 
 mul-result : tie.Need-overflow-mul-result
 mul-result c =
-    omega (arith, names-max c.before.args.d c.before.args.w c.before.args.k c.before.requires.0 c.before.requires.1.0 c.before.requires.1.1)
+    omega (arith, names_max c.before.args.d c.before.args.w c.before.args.k c.before.requires.0 c.before.requires.1.0 c.before.requires.1.1)
 
 returns : tie.Need-returns
 returns c =
-    omega (arith, name-first c.before.args.d c.before.args.w c.before.args.k, names-end c.before.args.d c.before.args.w c.before.args.k c.before.requires.1.0 c.before.requires.1.1)
+    omega (arith, name-first c.before.args.d c.before.args.w c.before.args.k, names_end c.before.args.d c.before.args.w c.before.args.k c.before.requires.1.0 c.before.requires.1.1)
 
 pub name-base-spec : {M : Type 1} → statement M
 name-base-spec =

@@ -1,4 +1,4 @@
-use Rattle.layout.proofs.Bounds.{last-is, customer-block}
+use Rattle.layout.proofs.Bounds.{last-is, customer_block}
 use native.Mathlib.Omega.{arith}
 use borrow.Author.Rules.{rules}
 use Rattle.layout.proofs.of_customer.Statement.{statement}
@@ -20,14 +20,14 @@ add-block c = search rules
 
 mul-block-2 : tie.Need-overflow-mul-block-2
 mul-block-2 c =
-    omega (arith, customer-block c.before.args.d c.before.requires.0 c.before.args.w c.before.args.k c.before.requires.1.0 c.before.requires.1.1.0)
+    omega (arith, customer_block c.before.args.d c.before.requires.0 c.before.args.w c.before.args.k c.before.requires.1.0 c.before.requires.1.1.0)
 
 sub-result : tie.Need-overflow-sub-result
 sub-result c = search rules
 
 add-result : tie.Need-overflow-add-result
 add-result c =
-    omega (arith, customer-block c.before.args.d c.before.requires.0 c.before.args.w c.before.args.k c.before.requires.1.0 c.before.requires.1.1.0)
+    omega (arith, customer_block c.before.args.d c.before.requires.0 c.before.args.w c.before.args.k c.before.requires.1.0 c.before.requires.1.1.0)
 
 returns : tie.Need-returns
 returns c =

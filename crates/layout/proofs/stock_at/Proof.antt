@@ -1,4 +1,4 @@
-use Rattle.layout.proofs.Bounds.{stock-is, stock-block}
+use Rattle.layout.proofs.Bounds.{stock-is, stock_block}
 use native.Mathlib.Omega.{arith}
 use borrow.Author.Rules.{rules}
 use Rattle.layout.proofs.stock_at.Statement.{statement}
@@ -12,7 +12,7 @@ sub-block c = search rules
 
 mul-block : tie.Need-overflow-mul-block
 mul-block c =
-    omega (arith, stock-block c.before.args.d c.before.requires.0 c.before.args.w c.before.requires.1.0)
+    omega (arith, stock_block c.before.args.d c.before.requires.0 c.before.args.w c.before.requires.1.0)
 
 stock-base-requires : tie.Need-stock-base-requires
 stock-base-requires c κs = search rules
@@ -22,15 +22,15 @@ sub-result c = search rules
 
 add-result : tie.Need-overflow-add-result
 add-result c =
-    omega (arith, stock-block c.before.before.args.d c.before.before.requires.0 c.before.before.args.w c.before.before.requires.1.0)
+    omega (arith, stock_block c.before.before.args.d c.before.before.requires.0 c.before.before.args.w c.before.before.requires.1.0)
 
 mul-result : tie.Need-overflow-mul-result
 mul-result c =
-    omega (arith, stock-block c.before.before.args.d c.before.before.requires.0 c.before.before.args.w c.before.before.requires.1.0)
+    omega (arith, stock_block c.before.before.args.d c.before.before.requires.0 c.before.before.args.w c.before.before.requires.1.0)
 
 add-result-2 : tie.Need-overflow-add-result-2
 add-result-2 c =
-    omega (arith, stock-block c.before.before.args.d c.before.before.requires.0 c.before.before.args.w c.before.before.requires.1.0)
+    omega (arith, stock_block c.before.before.args.d c.before.before.requires.0 c.before.before.args.w c.before.before.requires.1.0)
 
 returns : tie.Need-returns
 returns c =

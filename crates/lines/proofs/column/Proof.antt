@@ -4,22 +4,22 @@ use Prim.Native.Nat.{◌≤◌, ◌-◌}
 use native.Mathlib.Nat.{le_antisymm}
 use native.Mathlib.Omega.{arith}
 use lib.ListN.{length, length-set}
-use Rattle.lines.specs.Fields.{columnOf}
-use Rattle.lines.proofs.Forms.{column-none, column-step}
+use Rattle.lines.specs.Fields.{column_of}
+use Rattle.lines.proofs.Forms.{column_none, column_step}
 use Rattle.lines.proofs.column.Statement.{statement}
 use Rattle.lines.proofs.column.Tie as tie
 use Rattle.lines.proofs.column.Reads as reads
 use Rattle.lines.proofs.column.Lts as lts
 
 abbrev invariant-loop : tie.invariant-loop
-invariant-loop from n v c₀ i₀ c i = (i ≤ n) × ((length v ≡ 49) × ((length c ≡ 15) × (c ≡ columnOf v from i)))
+invariant-loop from n v c₀ i₀ c i = (i ≤ n) × ((length v ≡ 49) × ((length c ≡ 15) × (c ≡ column_of v from i)))
 
 abbrev decreases-loop : tie.decreases-loop
 decreases-loop from n v c₀ i₀ c i = n - i
 
 loop-holds : tie.Need-loop-init invariant-loop decreases-loop
 loop-holds c =
-    (search rules, (search rules, (search rules, column-none _ _)))
+    (search rules, (search rules, (search rules, column_none _ _)))
 
 mul-c : tie.Need-overflow-mul-c invariant-loop decreases-loop
 mul-c c =
@@ -55,7 +55,7 @@ loop-less c =
 
 loop-again : tie.Need-loop-preserved invariant-loop decreases-loop
 loop-again c =
-    (search rules, (search rules, (simp length-set (search rules), column-step _ _ _ _ (omega (arith, c.loop-test.true, c.before.before.requires.0)) c.before.loop.invariant.1.1.1)))
+    (search rules, (search rules, (simp length-set (search rules), column_step _ _ _ _ (omega (arith, c.loop-test.true, c.before.before.requires.0)) c.before.loop.invariant.1.1.1)))
 
 returns : tie.Need-returns invariant-loop decreases-loop
 returns c =

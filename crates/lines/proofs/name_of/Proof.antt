@@ -2,15 +2,15 @@ use borrow.Author.Rules.{rules}
 use mathlib.Core.Path.{◌≡◌}
 use Prim.Native.Nat.{◌≤◌, ◌-◌}
 use lib.ListN.{length, take, length-set}
-use Rattle.model.specs.RequestLine.{padTo}
-use Rattle.lines.proofs.Whos.{bytes-step, bytes-end}
+use Rattle.model.specs.RequestLine.{pad_to}
+use Rattle.lines.proofs.Whos.{bytes-step, bytes_end}
 use Rattle.lines.proofs.name_of.Statement.{statement}
 use Rattle.lines.proofs.name_of.Tie as tie
 use Rattle.lines.proofs.name_of.Reads as reads
 use Rattle.lines.proofs.name_of.Lts as lts
 
 abbrev invariant-loop : tie.invariant-loop
-invariant-loop f bytes₀ i₀ bytes i = (i ≤ length f) × ((length f ≤ 16) × ((length bytes ≡ 16) × (bytes ≡ padTo 16 (take i f))))
+invariant-loop f bytes₀ i₀ bytes i = (i ≤ length f) × ((length f ≤ 16) × ((length bytes ≡ 16) × (bytes ≡ pad_to 16 (take i f))))
 
 abbrev decreases-loop : tie.decreases-loop
 decreases-loop f bytes₀ i₀ bytes i = length f - i
@@ -41,7 +41,7 @@ loop-again c =
 
 returns : tie.Need-returns invariant-loop decreases-loop
 returns c =
-    bytes-end _ _ _ c.before.loop.invariant.0 c.loop-test.false c.before.loop.invariant.1.1.1
+    bytes_end _ _ _ c.before.loop.invariant.0 c.loop-test.false c.before.loop.invariant.1.1.1
 
 pub name-of-spec : {M : Type 1} → statement M
 name-of-spec =

@@ -3,8 +3,8 @@ use mathlib.Core.Path.{◌≡◌}
 use Prim.Native.Nat.{◌≤◌, ◌-◌, ◌<◌}
 use lib.ListN.{length, take}
 use Rattle.model.specs.Tests.{all_of}
-use Rattle.model.specs.RequestLine.{isPrintable}
-use Rattle.lines.proofs.Whos.{name-none, printable-step, name-end, name-empty, name-long}
+use Rattle.model.specs.RequestLine.{is_printable}
+use Rattle.lines.proofs.Whos.{name-none, printable_step, name_end, name-empty, name-long}
 use Rattle.lines.proofs.name_ok.Statement.{statement}
 use Rattle.lines.proofs.name_ok.Tie as tie
 use Rattle.lines.proofs.name_ok.Reads as reads
@@ -12,7 +12,7 @@ use Rattle.lines.proofs.name_ok.Lts as lts
 use Rattle.lines.proofs.byte_ok.Reads as byte-ok-reads
 
 abbrev invariant-loop : tie.invariant-loop
-invariant-loop f n ok₀ i₀ ok i = (i ≤ n) × ((n ≡ length f) × ((1 ≤ length f) × ((length f ≤ 16) × (ok ≡ all_of isPrintable (take i f)))))
+invariant-loop f n ok₀ i₀ ok i = (i ≤ n) × ((n ≡ length f) × ((1 ≤ length f) × ((length f ≤ 16) × (ok ≡ all_of is_printable (take i f)))))
 
 abbrev decreases-loop : tie.decreases-loop
 decreases-loop f n ok₀ i₀ ok i = n - i
@@ -48,7 +48,7 @@ loop-less c =
 loop-again : tie.Need-loop-preserved invariant-loop decreases-loop
 loop-again c =
     let h : c.before.before.before.loop.i < length c.before.before.before.before.before.before.before.args.f.now = search rules in
-    (search rules, (search rules, (search rules, (search rules, printable-step _ _ h c.before.before.before.loop.invariant.1.1.1.1 c.byte-ok.ensures))))
+    (search rules, (search rules, (search rules, (search rules, printable_step _ _ h c.before.before.before.loop.invariant.1.1.1.1 c.byte-ok.ensures))))
 
 shared-slice-read-result : tie.Need-shared-slice-read-result invariant-loop decreases-loop
 shared-slice-read-result c =
@@ -60,7 +60,7 @@ shared-slice-read-result-2 c =
 
 returns-3 : tie.Need-returns-3 invariant-loop decreases-loop
 returns-3 c =
-    name-end _ _ _ c.before.before.before.loop.invariant.0 c.before.before.loop-test.false c.before.before.before.loop.invariant.1.0 c.before.before.before.loop.invariant.1.1.0 c.before.before.before.loop.invariant.1.1.1.0 c.before.before.before.loop.invariant.1.1.1.1
+    name_end _ _ _ c.before.before.before.loop.invariant.0 c.before.before.loop-test.false c.before.before.before.loop.invariant.1.0 c.before.before.before.loop.invariant.1.1.0 c.before.before.before.loop.invariant.1.1.1.0 c.before.before.before.loop.invariant.1.1.1.1
 
 pub name-ok-spec : {M : Type 1} → statement M
 name-ok-spec =

@@ -1,6 +1,6 @@
 use borrow.Author.Rules.{rules}
 use mathlib.Core.Path.{sym, ◌∙◌}
-use Rattle.lines.specs.Fields.{whoByName}
+use Rattle.lines.specs.Fields.{who_by_name}
 use Rattle.lines.proofs.Whos.{name-short}
 use Rattle.lines.proofs.name_who.Statement.{statement}
 use Rattle.lines.proofs.name_who.Tie as tie
@@ -18,7 +18,7 @@ name-of-requires c κs =
     name-short _ (sym c.before.name-ok.ensures ∙ c.if1.true)
 
 returns : tie.Need-returns
-unfolding whoByName
+unfolding who_by_name
 returns c =
     rw (c.name_of.ensures, ← c.before.before.name-ok.ensures, c.before.if1.true)
 
@@ -26,7 +26,7 @@ no-who-requires : tie.Need-no-who-requires
 no-who-requires c κs = search rules
 
 returns-2 : tie.Need-returns-2
-unfolding whoByName
+unfolding who_by_name
 returns-2 c =
     rw (← c.before.before.name-ok.ensures, c.before.if1.false) c.no-who.ensures
 

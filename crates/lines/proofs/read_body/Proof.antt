@@ -19,7 +19,7 @@ no-form-requires c κs = search rules
 
 returns : tie.Need-returns
 returns c =
-    c.no-form.ensures ∙ ap stored (sym (body-not _ _ c.before.before.field-end.ensures c.before.if1.true))
+    c.no_form.ensures ∙ ap stored (sym (body-not _ _ c.before.before.field-end.ensures c.before.if1.true))
 
 shared-slice-read-wide : tie.Need-shared-slice-read-wide
 shared-slice-read-wide c = search rules

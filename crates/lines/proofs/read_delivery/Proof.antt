@@ -18,7 +18,7 @@ no-form-requires c κs = search rules
 
 returns : tie.Need-returns
 returns c =
-    c.no-form.ensures ∙ ap stored (sym (delivery-left _ _ _ _ c.before.before.before.numbers-at.ensures.0 c.before.before.before.numbers-at.ensures.1.1 c.before.if1.true))
+    c.no_form.ensures ∙ ap stored (sym (delivery-left _ _ _ _ c.before.before.before.numbers-at.ensures.0 c.before.before.before.numbers-at.ensures.1.1 c.before.if1.true))
 
 no-form-requires-2 : tie.Need-no-form-requires-2
 no-form-requires-2 c κs = search rules

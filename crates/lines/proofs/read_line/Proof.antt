@@ -1,7 +1,7 @@
 use borrow.Author.Rules.{rules}
 use mathlib.Core.Path.{sym, ◌∙◌, ap}
 use Rattle.model.specs.RequestLine.{stored}
-use Rattle.lines.proofs.WhoForms.{line-empty, line-open, line-is}
+use Rattle.lines.proofs.WhoForms.{line-empty, line_open, line-is}
 use Rattle.lines.proofs.read_line.Statement.{statement}
 use Rattle.lines.proofs.read_line.Tie as tie
 use Rattle.lines.proofs.read_line.Reads as reads
@@ -14,7 +14,7 @@ no-form-requires c κs = search rules
 
 returns : tie.Need-returns
 returns c =
-    c.no-form.ensures ∙ ap stored (sym (line-empty _ c.before.if1.true))
+    c.no_form.ensures ∙ ap stored (sym (line-empty _ c.before.if1.true))
 
 shared-slice-read-if2 : tie.Need-shared-slice-read-if2
 shared-slice-read-if2 c = search rules
@@ -24,7 +24,7 @@ no-form-requires-2 c κs = search rules
 
 returns-2 : tie.Need-returns-2
 returns-2 c =
-    c.no-form2.ensures ∙ ap stored (sym (line-open _ c.before.before.before.if1.false c.before.if2.true))
+    c.no-form2.ensures ∙ ap stored (sym (line_open _ c.before.before.before.if1.false c.before.if2.true))
 
 sub-read-body : tie.Need-overflow-sub-read-body
 sub-read-body c = search rules

@@ -1,7 +1,7 @@
 use borrow.Author.Rules.{rules}
 use mathlib.Core.Path.{sym, ◌∙◌, ap}
 use Rattle.model.specs.RequestLine.{stored}
-use Rattle.lines.proofs.Forms.{order-left, order-few, order-odd, order_is}
+use Rattle.lines.proofs.Forms.{order-left, order-few, order_odd, order_is}
 use Rattle.lines.proofs.read_new_order.Statement.{statement}
 use Rattle.lines.proofs.read_new_order.Tie as tie
 use Rattle.lines.proofs.read_new_order.Reads as reads
@@ -19,7 +19,7 @@ no-form-requires c κs = search rules
 
 returns : tie.Need-returns
 returns c =
-    c.no-form.ensures ∙ ap stored (sym (order-left _ _ _ _ c.before.before.before.numbers-at.ensures.0 c.before.before.before.numbers-at.ensures.1.1 c.before.if1.true))
+    c.no_form.ensures ∙ ap stored (sym (order-left _ _ _ _ c.before.before.before.numbers-at.ensures.0 c.before.before.before.numbers-at.ensures.1.1 c.before.if1.true))
 
 no-form-requires-2 : tie.Need-no-form-requires-2
 no-form-requires-2 c κs = search rules
@@ -42,7 +42,7 @@ no-form-requires-3 c κs = search rules
 
 returns-3 : tie.Need-returns-3
 returns-3 c =
-    c.no-form3.ensures ∙ ap stored (sym (order-odd _ _ _ _ c.before.before.before.before.before.before.before.before.numbers-at.ensures.0 c.before.before.before.before.before.before.if1.false c.before.if3.true))
+    c.no-form3.ensures ∙ ap stored (sym (order_odd _ _ _ _ c.before.before.before.before.before.before.before.before.numbers-at.ensures.0 c.before.before.before.before.before.before.if1.false c.before.if3.true))
 
 array-read-t13 : tie.Need-array-read-t13
 array-read-t13 c = search rules

@@ -2,7 +2,7 @@ use borrow.Author.Rules.{rules}
 use mathlib.Core.Path.{sym, ◌∙◌, ap}
 use native.Mathlib.Nat.{le_antisymm}
 use Rattle.model.specs.RequestLine.{stored}
-use Rattle.lines.proofs.Whos.{who-found, who-lost}
+use Rattle.lines.proofs.Whos.{who-found, who_lost}
 use Rattle.lines.proofs.WhoForms.{payment-few, payment-nobody, payment-short, payment-left, payment-is}
 use Rattle.lines.proofs.read_payment.Statement.{statement}
 use Rattle.lines.proofs.read_payment.Tie as tie
@@ -21,7 +21,7 @@ no-form-requires c κs = search rules
 
 returns : tie.Need-returns
 returns c =
-    c.no-form.ensures ∙ ap stored (sym (payment-few _ _ _ _ c.before.before.before.numbers-at.ensures.0 c.before.if1.true (c.before.before.before.numbers-at.ensures.1.1 c.before.if1.true)))
+    c.no_form.ensures ∙ ap stored (sym (payment-few _ _ _ _ c.before.before.before.numbers-at.ensures.0 c.before.if1.true (c.before.before.before.numbers-at.ensures.1.1 c.before.if1.true)))
 
 who-at-requires : tie.Need-who-at-requires
 who-at-requires c κs = search rules
@@ -31,7 +31,7 @@ no-form-requires-2 c κs = search rules
 
 returns-2 : tie.Need-returns-2
 returns-2 c =
-    c.no-form2.ensures ∙ ap stored (sym (payment-nobody _ _ _ _ c.before.before.before.before.before.before.numbers-at.ensures.0 (le_antisymm c.before.before.before.before.before.before.numbers-at.ensures.1.0 c.before.before.before.before.if1.false) (who-lost _ _ c.before.before.before.who-at.result c.before.if2.true c.before.before.before.who-at.ensures)))
+    c.no-form2.ensures ∙ ap stored (sym (payment-nobody _ _ _ _ c.before.before.before.before.before.before.numbers-at.ensures.0 (le_antisymm c.before.before.before.before.before.before.numbers-at.ensures.1.0 c.before.before.before.before.if1.false) (who_lost _ _ c.before.before.before.who-at.result c.before.if2.true c.before.before.before.who-at.ensures)))
 
 numbers-at-requires-2 : tie.Need-numbers-at-requires-2
 numbers-at-requires-2 c κs =

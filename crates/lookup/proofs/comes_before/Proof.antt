@@ -1,4 +1,4 @@
-use Rattle.lookup.specs.Listed.{beforeFrom}
+use Rattle.lookup.specs.Listed.{before_from}
 use Prim.Native.Nat.{◌-◌}
 use borrow.Author.Rules.{rules}
 use Rattle.lookup.proofs.comes_before.Statement.{statement}
@@ -44,17 +44,17 @@ enum-told-3 : tie.Need-enum-told-3
 enum-told-3 c = search rules
 
 returns : tie.Need-returns
-unfolding beforeFrom
+unfolding before_from
 returns c =
     rw (← c.before.before.compare-names.ensures.1, c.enum_told.given.1)
 
 returns-2 : tie.Need-returns-2
-unfolding beforeFrom
+unfolding before_from
 returns-2 c =
     rw (← c.before.before.compare-names.ensures.1, c.enum-told2.given.1)
 
 returns-3 : tie.Need-returns-3
-unfolding beforeFrom
+unfolding before_from
 returns-3 c =
     rw (← c.before.before.compare-names.ensures.1, c.enum-told3.given.1)
 

@@ -1,7 +1,7 @@
-use Rattle.lookup.specs.Extremes.{placeOk}
+use Rattle.lookup.specs.Extremes.{place_ok}
 use Rattle.lookup.proofs.Extremes.{place-step, place_end}
 use Rattle.model.proofs.TestLaws.{all_none}
-use Rattle.model.specs.Tests.{allTo}
+use Rattle.model.specs.Tests.{all_to}
 use Prim.Native.Nat.{◌≤◌, ◌-◌}
 use mathlib.Core.Path.{◌≡◌, sym}
 use borrow.Author.Rules.{rules}
@@ -11,7 +11,7 @@ use Rattle.lookup.proofs.extremes_ok.Reads as reads
 use Rattle.lookup.proofs.extremes_ok.Lts as lts
 
 abbrev invariant-loop : tie.invariant-loop
-invariant-loop low high ok₀ j₀ ok j = (j ≤ 32) × (ok ≡ allTo j (placeOk low high))
+invariant-loop low high ok₀ j₀ ok j = (j ≤ 32) × (ok ≡ all_to j (place_ok low high))
 
 abbrev decreases-loop : tie.decreases-loop
 decreases-loop low high ok₀ j₀ ok j = 32 - j

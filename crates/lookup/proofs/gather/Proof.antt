@@ -3,7 +3,7 @@ use native.Mathlib.Omega.{arith}
 use Rattle.lookup.proofs.Bridge.{listed}
 use Rattle.lookup.proofs.Skipping.{passing-by}
 use Rattle.model.proofs.Ordering.{sorted-step}
-use Rattle.lookup.specs.Listed.{namedFrom, namesakesFrom}
+use Rattle.lookup.specs.Listed.{named_from, namesakes_from}
 use lib.ListN.{length, take}
 use Prim.Native.Nat.{◌≤◌, ◌<◌, ◌-◌, ◌+◌}
 use mathlib.Core.Path.{◌≡◌, refl}
@@ -18,7 +18,7 @@ use Rattle.lookup.proofs.next_named.Reads as next-named-reads
 
 abbrev invariant-loop : tie.invariant-loop
 invariant-loop names base count name list₀ n₀ i₀ list n i = (i ≤ count)
-    × ((n ≤ i) × ((length list ≡ length list₀) × ((take n list ≡ namesakesFrom names base name i) × (i < count → namedFrom names base name (i + 1) ≡ true))))
+    × ((n ≤ i) × ((length list ≡ length list₀) × ((take n list ≡ namesakes_from names base name i) × (i < count → named_from names base name (i + 1) ≡ true))))
 
 abbrev decreases-loop : tie.decreases-loop
 decreases-loop names base count name list₀ n₀ i₀ list n i = count - i
@@ -28,14 +28,14 @@ next-named-requires c κs = search rules
 
 loop-holds : tie.Need-loop-init invariant-loop decreases-loop
 loop-holds c =
-    (c.next-named.ensures.to, (search rules, (refl, (rw (passing-by (namedFrom c.before.before.before.before.args.names.now c.before.before.before.before.args.base c.before.before.before.before.args.name.now) 0 c.next-named.result c.next-named.ensures.from c.next-named.ensures.others) refl, c.next-named.ensures.own))))
+    (c.next-named.ensures.to, (search rules, (refl, (rw (passing-by (named_from c.before.before.before.before.args.names.now c.before.before.before.before.args.base c.before.before.before.before.args.name.now) 0 c.next-named.result c.next-named.ensures.from c.next-named.ensures.others) refl, c.next-named.ensures.own))))
 
 add-insert-in : tie.Need-overflow-add-insert-in invariant-loop decreases-loop
 add-insert-in c = search rules
 
 insert-in-requires : tie.Need-insert-in-requires invariant-loop decreases-loop
 insert-in-requires c κs =
-    (search rules, listed c.before.before.before.before.before.before.before.args.names.now c.before.before.before.before.before.before.before.args.base c.before.before.before.before.before.before.before.args.count (namedFrom c.before.before.before.before.before.before.before.args.names.now c.before.before.before.before.before.before.before.args.base c.before.before.before.before.before.before.before.args.name.now) c.before.before.loop.list c.before.before.loop.n c.before.before.loop.i c.before.before.loop.invariant.1.1.1.0 c.before.before.before.before.before.before.before.requires.0 c.before.before.before.before.before.before.before.requires.1.0 (search rules) c.before.loop-test.true)
+    (search rules, listed c.before.before.before.before.before.before.before.args.names.now c.before.before.before.before.before.before.before.args.base c.before.before.before.before.before.before.before.args.count (named_from c.before.before.before.before.before.before.before.args.names.now c.before.before.before.before.before.before.before.args.base c.before.before.before.before.before.before.before.args.name.now) c.before.before.loop.list c.before.before.loop.n c.before.before.loop.i c.before.before.loop.invariant.1.1.1.0 c.before.before.before.before.before.before.before.requires.0 c.before.before.before.before.before.before.before.requires.1.0 (search rules) c.before.loop-test.true)
 
 add-n : tie.Need-overflow-add-n invariant-loop decreases-loop
 add-n c = search rules
@@ -52,7 +52,7 @@ loop-less c =
 
 loop-again : tie.Need-loop-preserved invariant-loop decreases-loop
 loop-again c =
-    (c.next-named2.ensures.to, (omega (arith, c.next-named2.ensures.from, c.before.before.before.before.before.before.loop.invariant), (search rules, (rw (passing-by (namedFrom c.before.before.before.before.before.before.before.before.before.before.before.args.names.now c.before.before.before.before.before.before.before.before.before.before.before.args.base c.before.before.before.before.before.before.before.before.before.before.before.args.name.now) (c.before.before.before.before.before.before.loop.i + 1) c.next-named2.result c.next-named2.ensures.from c.next-named2.ensures.others, sorted-step, c.before.before.before.before.before.before.loop.invariant.1.1.1.1 c.before.before.before.before.before.loop-test.true, ← c.before.before.before.before.before.before.loop.invariant.1.1.1.0) c.before.before.before.insert-in.ensures, c.next-named2.ensures.own))))
+    (c.next-named2.ensures.to, (omega (arith, c.next-named2.ensures.from, c.before.before.before.before.before.before.loop.invariant), (search rules, (rw (passing-by (named_from c.before.before.before.before.before.before.before.before.before.before.before.args.names.now c.before.before.before.before.before.before.before.before.before.before.before.args.base c.before.before.before.before.before.before.before.before.before.before.before.args.name.now) (c.before.before.before.before.before.before.loop.i + 1) c.next-named2.result c.next-named2.ensures.from c.next-named2.ensures.others, sorted-step, c.before.before.before.before.before.before.loop.invariant.1.1.1.1 c.before.before.before.before.before.loop-test.true, ← c.before.before.before.before.before.before.loop.invariant.1.1.1.0) c.before.before.before.insert-in.ensures, c.next-named2.ensures.own))))
 
 same_length : tie.Need-same-length invariant-loop decreases-loop
 same_length c = search rules

@@ -1,7 +1,7 @@
 use Prim.Native.Nat.{◌/◌}
 use Rattle.model.specs.Claim.{R}
-use Rattle.lookup.specs.Listed.{insertPlace, beforeFrom}
-use Rattle.lookup.proofs.Inserting.{half-low, half_high}
+use Rattle.lookup.specs.Listed.{insert_place, before_from}
+use Rattle.lookup.proofs.Inserting.{half_low, half_high}
 use lib.ListN.{get_or, take}
 use Prim.Native.Nat.{ℕ, ◌≤◌, ◌<◌, ◌+◌, ◌-◌}
 use mathlib.Core.Path.{sym, ◌∙◌}
@@ -40,7 +40,7 @@ returns : tie.Need-returns
 returns c =
     let m : ℕ = c.before.before.before.before.before.before.before.args.at.low + (c.before.before.before.before.before.before.before.args.at.high - c.before.before.before.before.before.before.before.args.at.low) / 2 in
     let h : m < c.before.before.before.before.before.before.before.args.n = omega (arith, c.before.before.before.before.before.before.before.requires) in
-    let k : insertPlace (beforeFrom c.before.before.before.before.before.before.before.args.names.now c.before.before.before.before.before.before.before.args.base) c.before.before.before.before.before.before.before.args.c (take c.before.before.before.before.before.before.before.args.n c.before.before.before.before.before.before.before.args.list.now) ≤ m = half-low _ _ _ _ _ _ h c.before.before.before.before.before.before.before.requires.0.room (sym c.before.comes-before.ensures ∙ c.if1.true) in
+    let k : insert_place (before_from c.before.before.before.before.before.before.before.args.names.now c.before.before.before.before.before.before.before.args.base) c.before.before.before.before.before.before.before.args.c (take c.before.before.before.before.before.before.before.args.n c.before.before.before.before.before.before.before.args.list.now) ≤ m = half_low _ _ _ _ _ _ h c.before.before.before.before.before.before.before.requires.0.room (sym c.before.comes-before.ensures ∙ c.if1.true) in
     omega (arith, k, c.before.before.before.before.before.before.before.requires)
 
 add-t10 : tie.Need-overflow-add-t10
@@ -50,7 +50,7 @@ returns-2 : tie.Need-returns-2
 returns-2 c =
     let m : ℕ = c.before.before.before.before.before.before.before.args.at.low + (c.before.before.before.before.before.before.before.args.at.high - c.before.before.before.before.before.before.before.args.at.low) / 2 in
     let h : m < c.before.before.before.before.before.before.before.args.n = omega (arith, c.before.before.before.before.before.before.before.requires) in
-    let k : m < insertPlace (beforeFrom c.before.before.before.before.before.before.before.args.names.now c.before.before.before.before.before.before.before.args.base) c.before.before.before.before.before.before.before.args.c (take c.before.before.before.before.before.before.before.args.n c.before.before.before.before.before.before.before.args.list.now) = half_high _ _ _ _ _ _ h c.before.before.before.before.before.before.before.requires.0.room c.before.before.before.before.before.before.before.requires.0.ordered (sym c.before.comes-before.ensures ∙ c.if1.false) in
+    let k : m < insert_place (before_from c.before.before.before.before.before.before.before.args.names.now c.before.before.before.before.before.before.before.args.base) c.before.before.before.before.before.before.before.args.c (take c.before.before.before.before.before.before.before.args.n c.before.before.before.before.before.before.before.args.list.now) = half_high _ _ _ _ _ _ h c.before.before.before.before.before.before.before.requires.0.room c.before.before.before.before.before.before.before.requires.0.ordered (sym c.before.comes-before.ensures ∙ c.if1.false) in
     omega (arith, k, c.before.before.before.before.before.before.before.requires)
 
 pub halve-spec : {M : Type 1} → statement M

@@ -1,5 +1,5 @@
 use Rattle.lookup.proofs.Bytes.{named_by}
-use Rattle.model.specs.Names.{isEqual}
+use Rattle.model.specs.Names.{is_equal}
 use Prim.Native.Nat.{◌-◌}
 use mathlib.Core.Path.{sym, ap, ◌∙◌}
 use borrow.Author.Rules.{rules}
@@ -32,15 +32,15 @@ enum-told-3 c = search rules
 
 returns : tie.Need-returns
 returns c =
-    sym (named_by _ _ _ _ _ c.before.before.before.before.before.requires.1.1 c.before.before.compare-names.ensures.1 ∙ ap isEqual c.enum_told.given.1)
+    sym (named_by _ _ _ _ _ c.before.before.before.before.before.requires.1.1 c.before.before.compare-names.ensures.1 ∙ ap is_equal c.enum_told.given.1)
 
 returns-2 : tie.Need-returns-2
 returns-2 c =
-    sym (named_by _ _ _ _ _ c.before.before.before.before.before.requires.1.1 c.before.before.compare-names.ensures.1 ∙ ap isEqual c.enum-told2.given.1)
+    sym (named_by _ _ _ _ _ c.before.before.before.before.before.requires.1.1 c.before.before.compare-names.ensures.1 ∙ ap is_equal c.enum-told2.given.1)
 
 returns-3 : tie.Need-returns-3
 returns-3 c =
-    sym (named_by _ _ _ _ _ c.before.before.before.before.before.requires.1.1 c.before.before.compare-names.ensures.1 ∙ ap isEqual c.enum-told3.given.1)
+    sym (named_by _ _ _ _ _ c.before.before.before.before.before.requires.1.1 c.before.before.compare-names.ensures.1 ∙ ap is_equal c.enum-told3.given.1)
 
 pub is-named-spec : {M : Type 1} → statement M
 is-named-spec =

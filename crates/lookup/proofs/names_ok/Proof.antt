@@ -1,8 +1,8 @@
 use Rattle.lookup.specs.Extremes.{least, most}
-use Rattle.lookup.specs.Listed.{nameOkFrom}
-use Rattle.lookup.proofs.Extremes.{Kept, kept-none, kept_step, extremes-all}
-use Rattle.model.proofs.ListLaws.{at-end}
-use Rattle.model.specs.Tests.{allTo}
+use Rattle.lookup.specs.Listed.{name_ok_from}
+use Rattle.lookup.proofs.Extremes.{Kept, kept-none, kept_step, extremes_all}
+use Rattle.model.proofs.ListLaws.{at_end}
+use Rattle.model.specs.Tests.{all_to}
 use Prim.Native.Nat.{◌≤◌, ◌-◌}
 use mathlib.Core.Path.{◌∙◌}
 use borrow.Author.Rules.{rules}
@@ -47,7 +47,7 @@ extremes-ok-requires c κs = search rules
 
 returns : tie.Need-returns invariant-loop decreases-loop
 returns c =
-    at-end (λ n. allTo n (nameOkFrom c.before.before.before.before.before.before.args.names.now c.before.before.before.before.before.before.args.base)) c.before.before.before.before.loop.invariant.0 c.before.before.before.loop-test.false (c.extremes-ok.ensures ∙ extremes-all c.before.before.before.before.loop.invariant.1.0 c.before.before.before.before.loop.invariant.1.1)
+    at_end (λ n. all_to n (name_ok_from c.before.before.before.before.before.before.args.names.now c.before.before.before.before.before.before.args.base)) c.before.before.before.before.loop.invariant.0 c.before.before.before.loop-test.false (c.extremes-ok.ensures ∙ extremes_all c.before.before.before.before.loop.invariant.1.0 c.before.before.before.before.loop.invariant.1.1)
 
 pub names-ok-spec : {M : Type 1} → statement M
 names-ok-spec =

@@ -1,4 +1,4 @@
-use Rattle.lookup.specs.Listed.{namedFrom}
+use Rattle.lookup.specs.Listed.{named_from}
 use Rattle.lookup.proofs.Skipping.{Passed, passed_none, passed-step}
 use mathlib.Core.Path.{sym, ◌∙◌}
 use Prim.Native.Nat.{◌≤◌, ◌-◌}
@@ -11,14 +11,14 @@ use Rattle.lookup.proofs.next_named.Lts as lts
 use Rattle.lookup.proofs.is_named.Reads as is-named-reads
 
 abbrev invariant-loop : tie.invariant-loop
-invariant-loop names base count name from i₀ i = (from ≤ i) × ((i ≤ count) × Passed (namedFrom names base name) from i)
+invariant-loop names base count name from i₀ i = (from ≤ i) × ((i ≤ count) × Passed (named_from names base name) from i)
 
 abbrev decreases-loop : tie.decreases-loop
 decreases-loop names base count name from i₀ i = count - i
 
 loop-holds : tie.Need-loop-init invariant-loop decreases-loop
 loop-holds c =
-    (search rules, (search rules, passed_none (namedFrom c.before.before.args.names.now c.before.before.args.base c.before.before.args.name.now) c.before.before.args.from))
+    (search rules, (search rules, passed_none (named_from c.before.before.args.names.now c.before.before.args.base c.before.before.args.name.now) c.before.before.args.from))
 
 add-is-named : tie.Need-overflow-add-is-named invariant-loop decreases-loop
 add-is-named c = search rules
@@ -43,7 +43,7 @@ loop-less c = search rules
 
 loop-again : tie.Need-loop-preserved invariant-loop decreases-loop
 loop-again c =
-    (search rules, (search rules, passed-step (namedFrom c.before.before.before.before.before.before.args.names.now c.before.before.before.before.before.before.args.base c.before.before.before.before.before.before.args.name.now) c.before.before.before.before.before.before.args.from c.before.before.before.loop.i c.before.before.before.loop.invariant.1.1 (sym c.before.is-named.ensures ∙ c.if1.false)))
+    (search rules, (search rules, passed-step (named_from c.before.before.before.before.before.before.args.names.now c.before.before.before.before.before.before.args.base c.before.before.before.before.before.before.args.name.now) c.before.before.before.before.before.before.args.from c.before.before.before.loop.i c.before.before.before.loop.invariant.1.1 (sym c.before.is-named.ensures ∙ c.if1.false)))
 
 returns-2 : tie.Need-returns-2 invariant-loop decreases-loop
 returns-2 c =

@@ -1,5 +1,5 @@
 use Rattle.lookup.specs.Extremes.{least, most}
-use Rattle.rows.proofs.Rewriting.{Rewriting, rewriting-none, rewriting-step, rewriting-end}
+use Rattle.rows.proofs.Rewriting.{Rewriting, rewriting_none, rewriting_step, rewriting_end}
 use mathlib.Core.Path.{◌≡◌}
 use Prim.Native.Nat.{◌≤◌, ◌-◌, ◌+◌}
 use lib.ListN.{get_or}
@@ -20,7 +20,7 @@ decreases-loop names p low₀ high₀ j₀ low high j = 32 - j
 
 loop-holds : tie.Need-loop-init invariant-loop decreases-loop
 loop-holds c =
-    (search rules, (rewriting-none c.before.requires.1.0, rewriting-none c.before.requires.1.1))
+    (search rules, (rewriting_none c.before.requires.1.0, rewriting_none c.before.requires.1.1))
 
 add-x : tie.Need-overflow-add-x invariant-loop decreases-loop
 add-x c = search rules
@@ -54,11 +54,11 @@ loop-less c = search rules
 
 loop-again : tie.Need-loop-preserved invariant-loop decreases-loop
 loop-again c =
-    (search rules, (rewriting-step c.before.before.before.before.before.loop-test.true c.before.before.before.before.before.before.loop.invariant.1.0 c.before.before.least.ensures, rewriting-step c.before.before.before.before.before.loop-test.true c.before.before.before.before.before.before.loop.invariant.1.1 c.most.ensures))
+    (search rules, (rewriting_step c.before.before.before.before.before.loop-test.true c.before.before.before.before.before.before.loop.invariant.1.0 c.before.before.least.ensures, rewriting_step c.before.before.before.before.before.loop-test.true c.before.before.before.before.before.before.loop.invariant.1.1 c.most.ensures))
 
 returns : tie.Need-returns invariant-loop decreases-loop
 returns c =
-    (rewriting-end c.loop-test.false c.before.loop.invariant.1.0, rewriting-end c.loop-test.false c.before.loop.invariant.1.1)
+    (rewriting_end c.loop-test.false c.before.loop.invariant.1.0, rewriting_end c.loop-test.false c.before.loop.invariant.1.1)
 
 pub note-name-spec : {M : Type 1} → statement M
 note-name-spec =

@@ -1,6 +1,6 @@
 use lib.Seq.{paste, paste-zero}
 use lib.ListN.{length, replicate, length-set}
-use Rattle.lookup.proofs.Bytes.{pad-step, pad-whole}
+use Rattle.lookup.proofs.Bytes.{pad_step, pad_whole}
 use Prim.Native.Nat.{◌≤◌, ◌-◌}
 use mathlib.Core.Path.{◌≡◌, ◌∙◌}
 use borrow.Author.Rules.{rules}
@@ -33,11 +33,11 @@ loop-less c = search rules
 
 loop-again : tie.Need-loop-preserved invariant-loop decreases-loop
 loop-again c =
-    (search rules, (search rules, (simp length-set (search rules), pad-step _ _ _ (search rules) (search rules) c.before.before.loop.invariant.1.1.1)))
+    (search rules, (search rules, (simp length-set (search rules), pad_step _ _ _ (search rules) (search rules) c.before.before.loop.invariant.1.1.1)))
 
 returns : tie.Need-returns invariant-loop decreases-loop
 returns c =
-    c.before.loop.invariant.1.1.1 ∙ pad-whole _ _ c.before.loop.invariant.0 (search rules)
+    c.before.loop.invariant.1.1.1 ∙ pad_whole _ _ c.before.loop.invariant.0 (search rules)
 
 pub pad-spec : {M : Type 1} → statement M
 pad-spec =

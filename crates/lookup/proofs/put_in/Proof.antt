@@ -1,6 +1,6 @@
 use mathlib.Core.List.{◌++◌, ◌∷◌}
 use lib.ListN.{length, take, drop, length-set}
-use Rattle.lookup.proofs.Inserting.{carry-step, carry-end, carry-rest}
+use Rattle.lookup.proofs.Inserting.{carry_step, carry_end, carry_rest}
 use Prim.Native.Nat.{◌≤◌, ◌+◌, ◌-◌}
 use mathlib.Core.Path.{◌≡◌, ◌∙◌}
 use borrow.Author.Rules.{rules}
@@ -38,7 +38,7 @@ loop-less c = search rules
 
 loop-again : tie.Need-loop-preserved invariant-loop decreases-loop
 loop-again c =
-    (search rules, (simp length-set (search rules), (carry-rest c.before.before.before.args.list.now c.before.before.loop.list c.before.before.loop.i c.before.before.loop.x c.before.before.loop.invariant.1.1.0, carry-step c.before.before.before.args.list.now c.before.before.loop.list c.before.before.before.args.n c.before.before.loop.i c.before.before.loop.x c.before.loop-test.true (search rules) c.before.before.loop.invariant.1.0 c.before.before.loop.invariant.1.1.0 ∙ c.before.before.loop.invariant.1.1.1)))
+    (search rules, (simp length-set (search rules), (carry_rest c.before.before.before.args.list.now c.before.before.loop.list c.before.before.loop.i c.before.before.loop.x c.before.before.loop.invariant.1.1.0, carry_step c.before.before.before.args.list.now c.before.before.loop.list c.before.before.before.args.n c.before.before.loop.i c.before.before.loop.x c.before.loop-test.true (search rules) c.before.before.loop.invariant.1.0 c.before.before.loop.invariant.1.1.0 ∙ c.before.before.loop.invariant.1.1.1)))
 
 mul-list-2 : tie.Need-overflow-mul-list-2 invariant-loop decreases-loop
 mul-list-2 c = search rules
@@ -52,7 +52,7 @@ same_length c =
 
 returns : tie.Need-returns invariant-loop decreases-loop
 returns c =
-    carry-end c.before.before.args.list.now c.before.loop.list _ c.before.before.args.n c.before.loop.i c.before.loop.x c.before.loop.invariant.0 c.loop-test.false (search rules) c.before.loop.invariant.1.0 c.before.loop.invariant.1.1.1
+    carry_end c.before.before.args.list.now c.before.loop.list _ c.before.before.args.n c.before.loop.i c.before.loop.x c.before.loop.invariant.0 c.loop-test.false (search rules) c.before.loop.invariant.1.0 c.before.loop.invariant.1.1.1
 
 pub put-in-spec : {M : Type 1} → statement M
 put-in-spec =

@@ -1,7 +1,7 @@
 use Prim.Native.Nat.{◌+◌, ◌*◌, ◌-◌}
 use native.Mathlib.Omega.{arith}
 use Rattle.model.specs.Note.{note_of}
-use Rattle.notes.proofs.Moving.{part-replaced}
+use Rattle.notes.proofs.Moving.{part_replaced}
 use borrow.Author.Rules.{rules}
 use Rattle.notes.proofs.note.Statement.{statement}
 use Rattle.notes.proofs.note.Tie as tie
@@ -35,7 +35,7 @@ same_length : tie.Need-same-length
 same_length c = search rules
 
 returns : tie.Need-returns
-returns c = part-replaced c.before.before.before.before.before.before.args.d c.before.before.before.before.before.before.args.notes.now c.before.before.put-note.new.0 (note_of c.before.before.before.before.before.before.args.q c.before.before.before.before.before.before.args.c) c.before.before.before.before.before.before.args.q.custwarehouse c.before.before.before.before.before.before.args.q.custdistrict c.before.before.before.before.before.before.args.c c.before.before.before.before.of-customer.ensures.0 (500 * c.before.before.before.before.of-customer.result + 500 - 500 * c.before.before.before.before.of-customer.result) (omega arith) c.before.before.put-note.ensures
+returns c = part_replaced c.before.before.before.before.before.before.args.d c.before.before.before.before.before.before.args.notes.now c.before.before.put-note.new.0 (note_of c.before.before.before.before.before.before.args.q c.before.before.before.before.before.before.args.c) c.before.before.before.before.before.before.args.q.custwarehouse c.before.before.before.before.before.before.args.q.custdistrict c.before.before.before.before.before.before.args.c c.before.before.before.before.of-customer.ensures.0 (500 * c.before.before.before.before.of-customer.result + 500 - 500 * c.before.before.before.before.of-customer.result) (omega arith) c.before.before.put-note.ensures
 
 pub note-spec : {M : Type 1} → statement M
 note-spec =

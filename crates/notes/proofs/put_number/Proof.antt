@@ -1,7 +1,7 @@
 use mathlib.Core.Path.{◌∙◌}
 use native.Mathlib.Omega.{arith}
 use lib.ListN.{length-set}
-use Rattle.notes.proofs.Writing.{one-digit, two_digits, more-digits, few-digits}
+use Rattle.notes.proofs.Writing.{one_digit, two_digits, more-digits, few-digits}
 use borrow.Author.Rules.{rules}
 use Rattle.notes.proofs.put_number.Statement.{statement}
 use Rattle.notes.proofs.put_number.Tie as tie
@@ -18,7 +18,7 @@ same_length c = search rules
 
 returns : tie.Need-returns
 returns c =
-    (one-digit c.before.before.before.before.before.before.args.n c.before.before.before.before.before.before.args.x c.before.before.before.before.if1.true c.before.before.put_last.ensures, omega (arith, c.before.before.put_last.ensures.place))
+    (one_digit c.before.before.before.before.before.before.args.n c.before.before.before.before.before.before.args.x c.before.before.before.before.if1.true c.before.before.put_last.ensures, omega (arith, c.before.before.put_last.ensures.place))
 
 add-text : tie.Need-overflow-add-text
 add-text c = search rules

@@ -1,5 +1,5 @@
 use native.Mathlib.Omega.{arith}
-use Rattle.notes.proofs.Writing.{note-written}
+use Rattle.notes.proofs.Writing.{note_written}
 use borrow.Author.Rules.{rules}
 use Rattle.notes.proofs.write_note.Statement.{statement}
 use Rattle.notes.proofs.write_note.Tie as tie
@@ -29,7 +29,7 @@ same_length : tie.Need-same-length
 same_length c = search rules
 
 returns : tie.Need-returns
-returns c = (note-written c.before.before.before.before.before.before.before.before.before.before.before.before.before.before.before.before.before.before.before.before.before.before.before.before.before.args.q c.before.before.before.before.before.before.before.before.before.before.before.before.before.before.before.before.before.before.before.before.before.before.before.before.before.args.c c.before.before.before.before.before.before.before.before.before.before.before.before.before.before.before.before.before.before.before.before.before.before.put-number.ensures.0 c.before.before.before.before.before.before.before.before.before.before.before.before.before.before.before.before.before.before.put-number2.ensures.0 c.before.before.before.before.before.before.before.before.before.before.before.before.before.before.put-number3.ensures.0 c.before.before.before.before.before.before.before.before.before.before.put-number4.ensures.0 c.before.before.before.before.before.before.put-number5.ensures.0 c.before.before.put-number6.ensures.0, omega (arith, c.before.before.before.before.before.before.before.before.before.before.before.before.before.before.before.before.before.before.before.before.before.before.put-number.ensures.1, c.before.before.before.before.before.before.before.before.before.before.before.before.before.before.before.before.before.before.put-number2.ensures.1, c.before.before.before.before.before.before.before.before.before.before.before.before.before.before.put-number3.ensures.1, c.before.before.before.before.before.before.before.before.before.before.put-number4.ensures.1, c.before.before.before.before.before.before.put-number5.ensures.1, c.before.before.put-number6.ensures.1))
+returns c = (note_written c.before.before.before.before.before.before.before.before.before.before.before.before.before.before.before.before.before.before.before.before.before.before.before.before.before.args.q c.before.before.before.before.before.before.before.before.before.before.before.before.before.before.before.before.before.before.before.before.before.before.before.before.before.args.c c.before.before.before.before.before.before.before.before.before.before.before.before.before.before.before.before.before.before.before.before.before.before.put-number.ensures.0 c.before.before.before.before.before.before.before.before.before.before.before.before.before.before.before.before.before.before.put-number2.ensures.0 c.before.before.before.before.before.before.before.before.before.before.before.before.before.before.put-number3.ensures.0 c.before.before.before.before.before.before.before.before.before.before.put-number4.ensures.0 c.before.before.before.before.before.before.put-number5.ensures.0 c.before.before.put-number6.ensures.0, omega (arith, c.before.before.before.before.before.before.before.before.before.before.before.before.before.before.before.before.before.before.before.before.before.before.put-number.ensures.1, c.before.before.before.before.before.before.before.before.before.before.before.before.before.before.before.before.before.before.put-number2.ensures.1, c.before.before.before.before.before.before.before.before.before.before.before.before.before.before.put-number3.ensures.1, c.before.before.before.before.before.before.before.before.before.before.put-number4.ensures.1, c.before.before.before.before.before.before.put-number5.ensures.1, c.before.before.put-number6.ensures.1))
 
 pub write-note-spec : {M : Type 1} → statement M
 write-note-spec =

@@ -1,5 +1,5 @@
 use Rattle.rows.proofs.RowTests.{shaped-booked}
-use Rattle.model.specs.Opening.{bookNew}
+use Rattle.model.specs.Opening.{book_new}
 use borrow.Author.Tests.{not-true, not-false, eq-eqb, ne_eqb}
 use Prim.Native.Nat.{◌-◌}
 use mathlib.Core.Path.{◌≡◌}
@@ -17,27 +17,27 @@ history-count-requires c κs =
     c.before.requires.six
 
 returns : tie.Need-returns
-unfolding bookNew
+unfolding book_new
 returns c =
-    let n : (c.before.history-count.result ≡ 0 → ⊥) = λ e. omega (arith, e, c.if1.true) in rw (← c.before.history-count.ensures, ne_eqb c.before.history-count.result 0 n)
+    let n : (c.before.history_count.result ≡ 0 → ⊥) = λ e. omega (arith, e, c.if1.true) in rw (← c.before.history_count.ensures, ne_eqb c.before.history_count.result 0 n)
 
 warehouses-new-requires : tie.Need-warehouses-new-requires
 warehouses-new-requires c κs =
     c.before.before.before.requires
 
 returns-2 : tie.Need-returns-2
-unfolding bookNew
+unfolding book_new
 returns-2 c =
-    let z : c.before.before.before.history-count.result ≡ 0 = omega (arith, c.before.before.if1.false) in rw (← c.before.before.before.history-count.ensures, eq-eqb c.before.before.before.history-count.result 0 z, ← c.before.warehouses-new.ensures, not-true c.before.warehouses-new.result c.if2.true)
+    let z : c.before.before.before.history_count.result ≡ 0 = omega (arith, c.before.before.if1.false) in rw (← c.before.before.before.history_count.ensures, eq-eqb c.before.before.before.history_count.result 0 z, ← c.before.warehouses-new.ensures, not-true c.before.warehouses-new.result c.if2.true)
 
 items-used-requires : tie.Need-items-used-requires
 items-used-requires c κs =
     shaped-booked c.before.before.before.before.before.requires
 
 returns-3 : tie.Need-returns-3
-unfolding bookNew
+unfolding book_new
 returns-3 c =
-    let z : c.before.before.before.before.history-count.result ≡ 0 = omega (arith, c.before.before.before.if1.false) in rw (← c.before.before.before.before.history-count.ensures, eq-eqb c.before.before.before.before.history-count.result 0 z, ← c.before.before.warehouses-new.ensures, not-false c.before.before.warehouses-new.result c.before.if2.false) c.items-used.ensures
+    let z : c.before.before.before.before.history_count.result ≡ 0 = omega (arith, c.before.before.before.if1.false) in rw (← c.before.before.before.before.history_count.ensures, eq-eqb c.before.before.before.before.history_count.result 0 z, ← c.before.before.warehouses-new.ensures, not-false c.before.before.warehouses-new.result c.before.if2.false) c.items-used.ensures
 
 pub book-new-spec : {M : Type 1} → statement M
 book-new-spec =

@@ -1,6 +1,6 @@
 use Rattle.opening.proofs.Runs.{district-row}
 use Rattle.rows.proofs.RowTests.{shaped-booked}
-use Rattle.model.specs.Opening.{districtNew}
+use Rattle.model.specs.Opening.{district_new}
 use borrow.Author.Tests.{not-true, not-false}
 use Prim.Native.Nat.{◌-◌}
 use native.Mathlib.Omega.{arith}
@@ -22,27 +22,27 @@ new-district-requires c κs =
     omega (arith, c.district-at.ensures, c.before.before.requires.0.long)
 
 returns : tie.Need-returns
-unfolding districtNew
+unfolding district_new
 returns c =
-    rw (← district-row c.before.before.before.before.args.d c.before.before.before.before.args.b.now c.before.before.before.before.args.w c.before.before.before.before.args.k c.before.before.district-at.ensures.0 c.before.new-district.ensures, not-true c.before.new-district.result c.if1.true)
+    rw (← district-row c.before.before.before.before.args.d c.before.before.before.before.args.b.now c.before.before.before.before.args.w c.before.before.before.before.args.k c.before.before.district-at.ensures.0 c.before.new_district.ensures, not-true c.before.new_district.result c.if1.true)
 
 new-customers-requires : tie.Need-new-customers-requires
 new-customers-requires c κs =
     (shaped-booked c.before.before.before.before.requires.0, c.before.before.before.before.requires.1)
 
 returns-2 : tie.Need-returns-2
-unfolding districtNew
+unfolding district_new
 returns-2 c =
-    rw (← district-row c.before.before.before.before.before.before.args.d c.before.before.before.before.before.before.args.b.now c.before.before.before.before.before.before.args.w c.before.before.before.before.before.before.args.k c.before.before.before.before.district-at.ensures.0 c.before.before.before.new-district.ensures, not-false c.before.before.before.new-district.result c.before.before.if1.false, ← c.before.new-customers.ensures, not-true c.before.new-customers.result c.if2.true)
+    rw (← district-row c.before.before.before.before.before.before.args.d c.before.before.before.before.before.before.args.b.now c.before.before.before.before.before.before.args.w c.before.before.before.before.before.before.args.k c.before.before.before.before.district-at.ensures.0 c.before.before.before.new_district.ensures, not-false c.before.before.before.new_district.result c.before.before.if1.false, ← c.before.new-customers.ensures, not-true c.before.new-customers.result c.if2.true)
 
 names-used-requires : tie.Need-names-used-requires
 names-used-requires c κs =
     (c.before.before.before.before.before.before.requires.0.dimsd, (c.before.before.before.before.before.before.requires.1.0, (c.before.before.before.before.before.before.requires.1.1, c.before.before.before.before.before.before.requires.0.names)))
 
 returns-3 : tie.Need-returns-3
-unfolding districtNew
+unfolding district_new
 returns-3 c =
-    rw (← district-row c.before.before.before.before.before.before.before.args.d c.before.before.before.before.before.before.before.args.b.now c.before.before.before.before.before.before.before.args.w c.before.before.before.before.before.before.before.args.k c.before.before.before.before.before.district-at.ensures.0 c.before.before.before.before.new-district.ensures, not-false c.before.before.before.before.new-district.result c.before.before.before.if1.false, ← c.before.before.new-customers.ensures, not-false c.before.before.new-customers.result c.before.if2.false) c.names-used.ensures
+    rw (← district-row c.before.before.before.before.before.before.before.args.d c.before.before.before.before.before.before.before.args.b.now c.before.before.before.before.before.before.before.args.w c.before.before.before.before.before.before.before.args.k c.before.before.before.before.before.district-at.ensures.0 c.before.before.before.before.new_district.ensures, not-false c.before.before.before.before.new_district.result c.before.before.before.if1.false, ← c.before.before.new-customers.ensures, not-false c.before.before.new-customers.result c.before.if2.false) c.names-used.ensures
 
 pub district-new-spec : {M : Type 1} → statement M
 district-new-spec =

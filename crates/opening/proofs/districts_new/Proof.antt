@@ -1,7 +1,7 @@
-use Rattle.model.specs.Opening.{districtNew}
-use Rattle.rows.proofs.Loops.{all_left, all-again, all_end}
+use Rattle.model.specs.Opening.{district_new}
+use Rattle.rows.proofs.Loops.{all_left, all_again, all_end}
 use Rattle.model.proofs.TestLaws.{all_none}
-use Rattle.model.specs.Tests.{allTo}
+use Rattle.model.specs.Tests.{all_to}
 use mathlib.Core.Bool.{true}
 use Prim.Native.Nat.{◌≤◌, ◌-◌}
 use mathlib.Core.Path.{◌≡◌}
@@ -14,14 +14,14 @@ use Rattle.opening.proofs.districts_new.Lts as lts
 use Rattle.opening.proofs.district_new.Reads as district-new-reads
 
 abbrev invariant-loop : tie.invariant-loop
-invariant-loop b names d w i₀ i = (i ≤ 10) × (allTo i (districtNew d b names w) ≡ true)
+invariant-loop b names d w i₀ i = (i ≤ 10) × (all_to i (district_new d b names w) ≡ true)
 
 abbrev decreases-loop : tie.decreases-loop
 decreases-loop b names d w i₀ i = 10 - i
 
 loop-holds : tie.Need-loop-init invariant-loop decreases-loop
 loop-holds c =
-    (search rules, all_none (districtNew c.before.args.d c.before.args.b.now c.before.args.names.now c.before.args.w))
+    (search rules, all_none (district_new c.before.args.d c.before.args.b.now c.before.args.names.now c.before.args.w))
 
 add-district-new : tie.Need-overflow-add-district-new invariant-loop decreases-loop
 add-district-new c = search rules
@@ -32,7 +32,7 @@ district-new-requires c κs =
 
 returns : tie.Need-returns invariant-loop decreases-loop
 returns c =
-    all_left (districtNew c.before.before.before.before.before.args.d c.before.before.before.before.before.args.b.now c.before.before.before.before.before.args.names.now c.before.before.before.before.before.args.w) (10) c.before.before.before.loop.i c.before.before.loop-test.true c.before.district-new.ensures c.if1.true
+    all_left (district_new c.before.before.before.before.before.args.d c.before.before.before.before.before.args.b.now c.before.before.before.before.before.args.names.now c.before.before.before.before.before.args.w) (10) c.before.before.before.loop.i c.before.before.loop-test.true c.before.district-new.ensures c.if1.true
 
 add-i : tie.Need-overflow-add-i invariant-loop decreases-loop
 add-i c = search rules
@@ -42,11 +42,11 @@ loop-less c = search rules
 
 loop-again : tie.Need-loop-preserved invariant-loop decreases-loop
 loop-again c =
-    (search rules, all-again (districtNew c.before.before.before.before.before.args.d c.before.before.before.before.before.args.b.now c.before.before.before.before.before.args.names.now c.before.before.before.before.before.args.w) c.before.before.before.loop.i c.before.before.before.loop.invariant.1 c.before.district-new.ensures c.if1.false)
+    (search rules, all_again (district_new c.before.before.before.before.before.args.d c.before.before.before.before.before.args.b.now c.before.before.before.before.before.args.names.now c.before.before.before.before.before.args.w) c.before.before.before.loop.i c.before.before.before.loop.invariant.1 c.before.district-new.ensures c.if1.false)
 
 returns-2 : tie.Need-returns-2 invariant-loop decreases-loop
 returns-2 c =
-    all_end (districtNew c.before.before.before.args.d c.before.before.before.args.b.now c.before.before.before.args.names.now c.before.before.before.args.w) c.before.loop.invariant.0 c.loop-test.false c.before.loop.invariant.1
+    all_end (district_new c.before.before.before.args.d c.before.before.before.args.b.now c.before.before.before.args.names.now c.before.before.before.args.w) c.before.loop.invariant.0 c.loop-test.false c.before.loop.invariant.1
 
 pub districts-new-spec : {M : Type 1} → statement M
 districts-new-spec =

@@ -1,9 +1,9 @@
 use Rattle.opening.proofs.Runs.{item-used}
 use Rattle.rows.proofs.Runs.{item-run}
-use Rattle.model.specs.Used.{itemUsed}
-use Rattle.rows.proofs.Loops.{all_left, all-again, all_end}
+use Rattle.model.specs.Used.{item_used}
+use Rattle.rows.proofs.Loops.{all_left, all_again, all_end}
 use Rattle.model.proofs.TestLaws.{all_none}
-use Rattle.model.specs.Tests.{allTo}
+use Rattle.model.specs.Tests.{all_to}
 use mathlib.Core.Bool.{true}
 use Prim.Native.Nat.{◌≤◌, ◌-◌}
 use mathlib.Core.Path.{◌≡◌}
@@ -17,7 +17,7 @@ use Rattle.layout.proofs.item_at.Reads as item-at-reads
 use Rattle.rows.proofs.item_ok.Reads as item-ok-reads
 
 abbrev invariant-loop : tie.invariant-loop
-invariant-loop b d base i₀ i = (i ≤ d.items) × (allTo i (itemUsed d b) ≡ true)
+invariant-loop b d base i₀ i = (i ≤ d.items) × (all_to i (item_used d b) ≡ true)
 
 abbrev decreases-loop : tie.decreases-loop
 decreases-loop b d base i₀ i = d.items - i
@@ -27,7 +27,7 @@ item-at-requires c κs = search rules
 
 loop-holds : tie.Need-loop-init invariant-loop decreases-loop
 loop-holds c =
-    (search rules, all_none (itemUsed c.before.args.d c.before.args.b.now))
+    (search rules, all_none (item_used c.before.args.d c.before.args.b.now))
 
 add-item-ok : tie.Need-overflow-add-item-ok invariant-loop decreases-loop
 add-item-ok c =
@@ -39,7 +39,7 @@ item-ok-requires c κs =
 
 returns : tie.Need-returns invariant-loop decreases-loop
 returns c =
-    all_left (itemUsed c.before.before.before.before.before.before.args.d c.before.before.before.before.before.before.args.b.now) c.before.before.before.before.before.before.args.d.items c.before.before.before.before.loop.i c.before.before.if1.true (item-used c.before.before.before.before.before.before.args.d c.before.before.before.before.before.before.args.b.now c.before.before.before.before.loop.i c.before.before.if1.true c.before.before.before.before.before.item-at.ensures.0 c.before.Item-ok.ensures) c.if2.true
+    all_left (item_used c.before.before.before.before.before.before.args.d c.before.before.before.before.before.before.args.b.now) c.before.before.before.before.before.before.args.d.items c.before.before.before.before.loop.i c.before.before.if1.true (item-used c.before.before.before.before.before.before.args.d c.before.before.before.before.before.before.args.b.now c.before.before.before.before.loop.i c.before.before.if1.true c.before.before.before.before.before.item-at.ensures.0 c.before.Item-ok.ensures) c.if2.true
 
 add-i : tie.Need-overflow-add-i invariant-loop decreases-loop
 add-i c = search rules
@@ -49,11 +49,11 @@ loop-less c = search rules
 
 loop-again : tie.Need-loop-preserved invariant-loop decreases-loop
 loop-again c =
-    (search rules, all-again (itemUsed c.before.before.before.before.before.before.args.d c.before.before.before.before.before.before.args.b.now) c.before.before.before.before.loop.i c.before.before.before.before.loop.invariant.1 (item-used c.before.before.before.before.before.before.args.d c.before.before.before.before.before.before.args.b.now c.before.before.before.before.loop.i c.before.before.if1.true c.before.before.before.before.before.item-at.ensures.0 c.before.Item-ok.ensures) c.if2.false)
+    (search rules, all_again (item_used c.before.before.before.before.before.before.args.d c.before.before.before.before.before.before.args.b.now) c.before.before.before.before.loop.i c.before.before.before.before.loop.invariant.1 (item-used c.before.before.before.before.before.before.args.d c.before.before.before.before.before.before.args.b.now c.before.before.before.before.loop.i c.before.before.if1.true c.before.before.before.before.before.item-at.ensures.0 c.before.Item-ok.ensures) c.if2.false)
 
 returns-2 : tie.Need-returns-2 invariant-loop decreases-loop
 returns-2 c =
-    all_end (itemUsed c.before.before.before.before.args.d c.before.before.before.before.args.b.now) c.before.before.loop.invariant.0 c.if1.false c.before.before.loop.invariant.1
+    all_end (item_used c.before.before.before.before.args.d c.before.before.before.before.args.b.now) c.before.before.loop.invariant.0 c.if1.false c.before.before.loop.invariant.1
 
 pub items-used-spec : {M : Type 1} → statement M
 items-used-spec =

@@ -1,6 +1,6 @@
 use Rattle.model.specs.Numbers.{cell}
 use Rattle.model.specs.Store.{from}
-use Rattle.model.specs.Opening.{newCustomer}
+use Rattle.model.specs.Opening.{new_customer}
 use Prim.Native.Nat.{◌-◌}
 use borrow.Author.Rules.{rules}
 use Rattle.opening.proofs.new_customer.Statement.{statement}
@@ -43,7 +43,7 @@ get-requires-6 : tie.Need-get-requires-6
 get-requires-6 c κs = search rules
 
 returns : tie.Need-returns
-unfolding newCustomer from cell
+unfolding new_customer from cell
 returns c =
     rw (c.before.before.before.before.before.get.ensures, c.before.before.before.before.get2.ensures, c.before.before.before.get3.ensures, c.before.before.get4.ensures, c.before.get5.ensures, c.get6.ensures)
 

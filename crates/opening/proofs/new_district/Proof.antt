@@ -1,6 +1,6 @@
 use Rattle.model.specs.Numbers.{cell}
 use Rattle.model.specs.Store.{from}
-use Rattle.model.specs.Opening.{newDistrict}
+use Rattle.model.specs.Opening.{new_district}
 use Prim.Native.Nat.{◌-◌}
 use borrow.Author.Rules.{rules}
 use Rattle.opening.proofs.new_district.Statement.{statement}
@@ -25,7 +25,7 @@ get-requires-3 : tie.Need-get-requires-3
 get-requires-3 c κs = search rules
 
 returns : tie.Need-returns
-unfolding newDistrict from cell
+unfolding new_district from cell
 returns c =
     rw (c.before.before.get.ensures, c.before.get2.ensures, c.get3.ensures)
 

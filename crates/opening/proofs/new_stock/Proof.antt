@@ -1,6 +1,6 @@
 use Rattle.model.specs.Numbers.{cell}
 use Rattle.model.specs.Store.{from}
-use Rattle.model.specs.Opening.{newStock}
+use Rattle.model.specs.Opening.{new_stock}
 use Prim.Native.Nat.{◌-◌}
 use borrow.Author.Rules.{rules}
 use Rattle.opening.proofs.new_stock.Statement.{statement}
@@ -31,7 +31,7 @@ get-requires-4 : tie.Need-get-requires-4
 get-requires-4 c κs = search rules
 
 returns : tie.Need-returns
-unfolding newStock from cell
+unfolding new_stock from cell
 returns c =
     rw (c.before.before.before.get.ensures, c.before.before.get2.ensures, c.before.get3.ensures, c.get4.ensures)
 

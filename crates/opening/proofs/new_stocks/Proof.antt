@@ -1,9 +1,9 @@
-use Rattle.opening.proofs.Runs.{stock-new}
-use Rattle.opening.specs.New.{stockNew}
+use Rattle.opening.proofs.Runs.{stock_new_lem}
+use Rattle.opening.specs.New.{stock_new}
 use Rattle.rows.proofs.Runs.{stock-run}
-use Rattle.rows.proofs.Loops.{all_left, all-again, all_end}
+use Rattle.rows.proofs.Loops.{all_left, all_again, all_end}
 use Rattle.model.proofs.TestLaws.{all_none}
-use Rattle.model.specs.Tests.{allTo}
+use Rattle.model.specs.Tests.{all_to}
 use mathlib.Core.Bool.{true}
 use Prim.Native.Nat.{◌≤◌, ◌-◌}
 use mathlib.Core.Path.{◌≡◌}
@@ -17,7 +17,7 @@ use Rattle.layout.proofs.stock_at.Reads as stock-at-reads
 use Rattle.opening.proofs.new_stock.Reads as new-stock-reads
 
 abbrev invariant-loop : tie.invariant-loop
-invariant-loop b d w base i₀ i = (i ≤ d.items) × (allTo i (stockNew d b w) ≡ true)
+invariant-loop b d w base i₀ i = (i ≤ d.items) × (all_to i (stock_new d b w) ≡ true)
 
 abbrev decreases-loop : tie.decreases-loop
 decreases-loop b d w base i₀ i = d.items - i
@@ -27,7 +27,7 @@ stock-at-requires c κs = search rules
 
 loop-holds : tie.Need-loop-init invariant-loop decreases-loop
 loop-holds c =
-    (search rules, all_none (stockNew c.before.args.d c.before.args.b.now c.before.args.w))
+    (search rules, all_none (stock_new c.before.args.d c.before.args.b.now c.before.args.w))
 
 mul-new-stock : tie.Need-overflow-mul-new-stock invariant-loop decreases-loop
 mul-new-stock c =
@@ -43,7 +43,7 @@ new-stock-requires c κs =
 
 returns : tie.Need-returns invariant-loop decreases-loop
 returns c =
-    all_left (stockNew c.before.before.before.before.before.before.args.d c.before.before.before.before.before.before.args.b.now c.before.before.before.before.before.before.args.w) c.before.before.before.before.before.before.args.d.items c.before.before.before.before.loop.i c.before.before.if1.true (stock-new c.before.before.before.before.before.before.args.d c.before.before.before.before.before.before.args.b.now c.before.before.before.before.before.before.args.w c.before.before.before.before.loop.i c.before.before.before.before.before.before.requires.1 c.before.before.if1.true c.before.before.before.before.before.stock-at.ensures.0 c.before.new-stock.ensures) c.if2.true
+    all_left (stock_new c.before.before.before.before.before.before.args.d c.before.before.before.before.before.before.args.b.now c.before.before.before.before.before.before.args.w) c.before.before.before.before.before.before.args.d.items c.before.before.before.before.loop.i c.before.before.if1.true (stock_new_lem c.before.before.before.before.before.before.args.d c.before.before.before.before.before.before.args.b.now c.before.before.before.before.before.before.args.w c.before.before.before.before.loop.i c.before.before.before.before.before.before.requires.1 c.before.before.if1.true c.before.before.before.before.before.stock-at.ensures.0 c.before.new_stock.ensures) c.if2.true
 
 add-i : tie.Need-overflow-add-i invariant-loop decreases-loop
 add-i c = search rules
@@ -53,11 +53,11 @@ loop-less c = search rules
 
 loop-again : tie.Need-loop-preserved invariant-loop decreases-loop
 loop-again c =
-    (search rules, all-again (stockNew c.before.before.before.before.before.before.args.d c.before.before.before.before.before.before.args.b.now c.before.before.before.before.before.before.args.w) c.before.before.before.before.loop.i c.before.before.before.before.loop.invariant.1 (stock-new c.before.before.before.before.before.before.args.d c.before.before.before.before.before.before.args.b.now c.before.before.before.before.before.before.args.w c.before.before.before.before.loop.i c.before.before.before.before.before.before.requires.1 c.before.before.if1.true c.before.before.before.before.before.stock-at.ensures.0 c.before.new-stock.ensures) c.if2.false)
+    (search rules, all_again (stock_new c.before.before.before.before.before.before.args.d c.before.before.before.before.before.before.args.b.now c.before.before.before.before.before.before.args.w) c.before.before.before.before.loop.i c.before.before.before.before.loop.invariant.1 (stock_new_lem c.before.before.before.before.before.before.args.d c.before.before.before.before.before.before.args.b.now c.before.before.before.before.before.before.args.w c.before.before.before.before.loop.i c.before.before.before.before.before.before.requires.1 c.before.before.if1.true c.before.before.before.before.before.stock-at.ensures.0 c.before.new_stock.ensures) c.if2.false)
 
 returns-2 : tie.Need-returns-2 invariant-loop decreases-loop
 returns-2 c =
-    all_end (stockNew c.before.before.before.before.args.d c.before.before.before.before.args.b.now c.before.before.before.before.args.w) c.before.before.loop.invariant.0 c.if1.false c.before.before.loop.invariant.1
+    all_end (stock_new c.before.before.before.before.args.d c.before.before.before.before.args.b.now c.before.before.before.before.args.w) c.before.before.loop.invariant.0 c.if1.false c.before.before.loop.invariant.1
 
 pub new-stocks-spec : {M : Type 1} → statement M
 new-stocks-spec =

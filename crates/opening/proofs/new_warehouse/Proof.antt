@@ -1,6 +1,6 @@
 use Rattle.model.specs.Numbers.{cell}
 use Rattle.model.specs.Store.{from}
-use Rattle.model.specs.Opening.{newWarehouse}
+use Rattle.model.specs.Opening.{new_warehouse}
 use Prim.Native.Nat.{◌-◌}
 use borrow.Author.Rules.{rules}
 use Rattle.opening.proofs.new_warehouse.Statement.{statement}
@@ -19,7 +19,7 @@ get-requires-2 : tie.Need-get-requires-2
 get-requires-2 c κs = search rules
 
 returns : tie.Need-returns
-unfolding newWarehouse from cell
+unfolding new_warehouse from cell
 returns c =
     rw (c.before.get.ensures, c.get2.ensures)
 

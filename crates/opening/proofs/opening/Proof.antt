@@ -2,10 +2,10 @@ use lib.ListN.{length}
 use mathlib.Core.Bool.{true, false}
 use borrow.Author.Tests.{not-true, not-false}
 use Rattle.model.specs.Answer.{refused}
-use Rattle.model.specs.Head.{headOk, dims}
-use Rattle.model.specs.TopUp.{topupOk}
-use Rattle.model.specs.Opening.{openingFault, openingAnswer, bookNew}
-use Rattle.layout.proofs.Heads.{head_read, head-damaged}
+use Rattle.model.specs.Head.{head_ok, dims}
+use Rattle.model.specs.TopUp.{topup_ok}
+use Rattle.model.specs.Opening.{opening_fault, opening_answer, book_new}
+use Rattle.layout.proofs.Heads.{head_read, head_damaged}
 use mathlib.Core.Path.{◌≡◌, sym, ap, ◌∙◌}
 use borrow.Author.Rules.{rules}
 use Rattle.opening.proofs.opening.Statement.{statement}
@@ -34,10 +34,10 @@ turned-away-requires : tie.Need-turned-away-requires
 turned-away-requires c κs = search rules
 
 returns : tie.Need-returns
-unfolding openingAnswer openingFault
+unfolding opening_answer opening_fault
 returns c =
-    let h : headOk c.before.before.before.before.before.before.args.b.now (length c.before.before.before.before.before.before.args.names.now) ≡ false = head-damaged c.before.before.before.before.before.before.args.b.now (length c.before.before.before.before.before.before.args.names.now) c.before.before.before.before.head_of.ensures c.before.before.enum_told.given.1 in
-    record { says = c.turned-away.ensures ∙ ap refused c.before.refused.ensures ∙ rw h }
+    let h : head_ok c.before.before.before.before.before.before.args.b.now (length c.before.before.before.before.before.before.args.names.now) ≡ false = head_damaged c.before.before.before.before.before.before.args.b.now (length c.before.before.before.before.before.before.args.names.now) c.before.before.before.before.head_of.ensures c.before.before.enum_told.given.1 in
+    record { says = c.turned_away.ensures ∙ ap refused c.before.refused.ensures ∙ rw h }
 
 book-new-requires : tie.Need-book-new-requires
 book-new-requires c κs =
@@ -50,10 +50,10 @@ turned-away-requires-2 : tie.Need-turned-away-requires-2
 turned-away-requires-2 c κs = search rules
 
 returns-2 : tie.Need-returns-2
-unfolding openingAnswer openingFault
+unfolding opening_answer opening_fault
 returns-2 c =
     let v = head_read c.before.before.before.before.before.before.before.before.before.args.b.now (length c.before.before.before.before.before.before.before.before.before.args.names.now) c.before.before.before.before.before.before.before.head_of.ensures c.before.before.before.before.before.d.given.1 in
-    let n : bookNew (dims c.before.before.before.before.before.before.before.before.before.args.b.now) c.before.before.before.before.before.before.before.before.before.args.b.now c.before.before.before.before.before.before.before.before.before.args.names.now ≡ false = rw (← v.same) (sym c.before.before.before.book-new.ensures ∙ not-true c.before.before.before.book-new.result c.before.before.if1.true) in
+    let n : book_new (dims c.before.before.before.before.before.before.before.before.before.args.b.now) c.before.before.before.before.before.before.before.before.before.args.b.now c.before.before.before.before.before.before.before.before.before.args.names.now ≡ false = rw (← v.same) (sym c.before.before.before.book-new.ensures ∙ not-true c.before.before.before.book-new.result c.before.before.if1.true) in
     record { says = c.turned-away2.ensures ∙ ap refused c.before.refused2.ensures ∙ rw (v.fine, n) }
 
 table-ok-requires : tie.Need-table-ok-requires
@@ -67,19 +67,19 @@ turned-away-requires-3 : tie.Need-turned-away-requires-3
 turned-away-requires-3 c κs = search rules
 
 returns-3 : tie.Need-returns-3
-unfolding openingAnswer openingFault
+unfolding opening_answer opening_fault
 returns-3 c =
     let v = head_read c.before.before.before.before.before.before.before.before.before.before.before.args.b.now (length c.before.before.before.before.before.before.before.before.before.before.before.args.names.now) c.before.before.before.before.before.before.before.before.before.head_of.ensures c.before.before.before.before.before.before.before.d.given.1 in
-    let n : bookNew (dims c.before.before.before.before.before.before.before.before.before.before.before.args.b.now) c.before.before.before.before.before.before.before.before.before.before.before.args.b.now c.before.before.before.before.before.before.before.before.before.before.before.args.names.now ≡ true = rw (← v.same) (sym c.before.before.before.before.before.book-new.ensures ∙ not-false c.before.before.before.before.before.book-new.result c.before.before.before.before.if1.false) in
-    let t : topupOk (dims c.before.before.before.before.before.before.before.before.before.before.before.args.b.now) c.before.before.before.before.before.before.before.before.before.before.before.args.topup.now ≡ false = rw (← v.same) (sym c.before.before.before.table-ok.ensures ∙ not-true c.before.before.before.table-ok.result c.before.before.if2.true) in
+    let n : book_new (dims c.before.before.before.before.before.before.before.before.before.before.before.args.b.now) c.before.before.before.before.before.before.before.before.before.before.before.args.b.now c.before.before.before.before.before.before.before.before.before.before.before.args.names.now ≡ true = rw (← v.same) (sym c.before.before.before.before.before.book-new.ensures ∙ not-false c.before.before.before.before.before.book-new.result c.before.before.before.before.if1.false) in
+    let t : topup_ok (dims c.before.before.before.before.before.before.before.before.before.before.before.args.b.now) c.before.before.before.before.before.before.before.before.before.before.before.args.topup.now ≡ false = rw (← v.same) (sym c.before.before.before.table-ok.ensures ∙ not-true c.before.before.before.table-ok.result c.before.before.if2.true) in
     record { says = c.turned-away3.ensures ∙ ap refused c.before.refused3.ensures ∙ rw (v.fine, n, t) }
 
 returns-4 : tie.Need-returns-4
-unfolding openingAnswer openingFault
+unfolding opening_answer opening_fault
 returns-4 c =
     let v = head_read c.before.before.before.before.before.before.before.before.before.args.b.now (length c.before.before.before.before.before.before.before.before.before.args.names.now) c.before.before.before.before.before.before.before.head_of.ensures c.before.before.before.before.before.d.given.1 in
-    let n : bookNew (dims c.before.before.before.before.before.before.before.before.before.args.b.now) c.before.before.before.before.before.before.before.before.before.args.b.now c.before.before.before.before.before.before.before.before.before.args.names.now ≡ true = rw (← v.same) (sym c.before.before.before.book-new.ensures ∙ not-false c.before.before.before.book-new.result c.before.before.if1.false) in
-    let t : topupOk (dims c.before.before.before.before.before.before.before.before.before.args.b.now) c.before.before.before.before.before.before.before.before.before.args.topup.now ≡ true = rw (← v.same) (sym c.before.table-ok.ensures ∙ not-false c.before.table-ok.result c.if2.false) in
+    let n : book_new (dims c.before.before.before.before.before.before.before.before.before.args.b.now) c.before.before.before.before.before.before.before.before.before.args.b.now c.before.before.before.before.before.before.before.before.before.args.names.now ≡ true = rw (← v.same) (sym c.before.before.before.book-new.ensures ∙ not-false c.before.before.before.book-new.result c.before.before.if1.false) in
+    let t : topup_ok (dims c.before.before.before.before.before.before.before.before.before.args.b.now) c.before.before.before.before.before.before.before.before.before.args.topup.now ≡ true = rw (← v.same) (sym c.before.table-ok.ensures ∙ not-false c.before.table-ok.result c.if2.false) in
     record { says = rw (v.fine, n, t) }
 
 pub opening-spec : {M : Type 1} → statement M

@@ -1,6 +1,6 @@
 use Rattle.opening.proofs.Runs.{warehouse-row}
 use Rattle.rows.proofs.RowTests.{shaped-booked}
-use Rattle.model.specs.Opening.{warehouseNew}
+use Rattle.model.specs.Opening.{warehouse_new}
 use borrow.Author.Tests.{not-true, not-false}
 use Prim.Native.Nat.{◌-◌}
 use native.Mathlib.Omega.{arith}
@@ -22,27 +22,27 @@ new-warehouse-requires c κs =
     omega (arith, c.warehouse-at.ensures, c.before.before.requires.0.long)
 
 returns : tie.Need-returns
-unfolding warehouseNew
+unfolding warehouse_new
 returns c =
-    rw (← warehouse-row c.before.before.before.before.args.d c.before.before.before.before.args.b.now c.before.before.before.before.args.w c.before.before.warehouse-at.ensures.0 c.before.new-warehouse.ensures, not-true c.before.new-warehouse.result c.if1.true)
+    rw (← warehouse-row c.before.before.before.before.args.d c.before.before.before.before.args.b.now c.before.before.before.before.args.w c.before.before.warehouse-at.ensures.0 c.before.new_warehouse.ensures, not-true c.before.new_warehouse.result c.if1.true)
 
 districts-new-requires : tie.Need-districts-new-requires
 districts-new-requires c κs =
     c.before.before.before.before.requires
 
 returns-2 : tie.Need-returns-2
-unfolding warehouseNew
+unfolding warehouse_new
 returns-2 c =
-    rw (← warehouse-row c.before.before.before.before.before.before.args.d c.before.before.before.before.before.before.args.b.now c.before.before.before.before.before.before.args.w c.before.before.before.before.warehouse-at.ensures.0 c.before.before.before.new-warehouse.ensures, not-false c.before.before.before.new-warehouse.result c.before.before.if1.false, ← c.before.districts-new.ensures, not-true c.before.districts-new.result c.if2.true)
+    rw (← warehouse-row c.before.before.before.before.before.before.args.d c.before.before.before.before.before.before.args.b.now c.before.before.before.before.before.before.args.w c.before.before.before.before.warehouse-at.ensures.0 c.before.before.before.new_warehouse.ensures, not-false c.before.before.before.new_warehouse.result c.before.before.if1.false, ← c.before.districts-new.ensures, not-true c.before.districts-new.result c.if2.true)
 
 new-stocks-requires : tie.Need-new-stocks-requires
 new-stocks-requires c κs =
     (shaped-booked c.before.before.before.before.before.before.requires.0, c.before.before.before.before.before.before.requires.1)
 
 returns-3 : tie.Need-returns-3
-unfolding warehouseNew
+unfolding warehouse_new
 returns-3 c =
-    rw (← warehouse-row c.before.before.before.before.before.before.before.args.d c.before.before.before.before.before.before.before.args.b.now c.before.before.before.before.before.before.before.args.w c.before.before.before.before.before.warehouse-at.ensures.0 c.before.before.before.before.new-warehouse.ensures, not-false c.before.before.before.before.new-warehouse.result c.before.before.before.if1.false, ← c.before.before.districts-new.ensures, not-false c.before.before.districts-new.result c.before.if2.false) c.new-stocks.ensures
+    rw (← warehouse-row c.before.before.before.before.before.before.before.args.d c.before.before.before.before.before.before.before.args.b.now c.before.before.before.before.before.before.before.args.w c.before.before.before.before.before.warehouse-at.ensures.0 c.before.before.before.before.new_warehouse.ensures, not-false c.before.before.before.before.new_warehouse.result c.before.before.before.if1.false, ← c.before.before.districts-new.ensures, not-false c.before.before.districts-new.result c.before.if2.false) c.new-stocks.ensures
 
 pub warehouse-new-spec : {M : Type 1} → statement M
 warehouse-new-spec =

@@ -1,4 +1,4 @@
-use Rattle.model.specs.Names.{customerOf}
+use Rattle.model.specs.Names.{customer_of}
 use Prim.Native.Nat.{◌-◌}
 use borrow.Author.Rules.{rules}
 use Rattle.order_status.proofs.customer_of.Statement.{statement}
@@ -17,12 +17,12 @@ find-requires : tie.Need-find-requires
 find-requires c κs = search rules
 
 returns : tie.Need-returns
-unfolding customerOf
+unfolding customer_of
 returns c =
     rw c.before.who.given.1
 
 returns-2 : tie.Need-returns-2
-unfolding customerOf
+unfolding customer_of
 returns-2 c =
     rw c.before.enum_told.given.1 c.find.ensures
 

@@ -1,6 +1,6 @@
 use mathlib.Core.Path.{refl}
 use Rattle.cells.proofs.Signed.{held}
-use Rattle.order_status.proofs.Stages.{shown-none, shown-some}
+use Rattle.order_status.proofs.Stages.{shown_none, shown_some}
 use Prim.Native.Nat.{◌-◌}
 use mathlib.Core.Path.{refl}
 use borrow.Author.Rules.{rules}
@@ -17,7 +17,7 @@ balance-of-requires c κs = search rules
 
 returns : tie.Need-returns
 returns c =
-    (refl, (rw (held c.before.balance-of.type-inv) c.before.balance-of.ensures, shown-none _ _ _ _ c.if1.true))
+    (refl, (rw (held c.before.balance-of.type-inv) c.before.balance-of.ensures, shown_none _ _ _ _ c.if1.true))
 
 entry-date-requires : tie.Need-entry-date-requires
 entry-date-requires c κs = search rules
@@ -27,7 +27,7 @@ order-carrier-requires c κs = search rules
 
 returns-2 : tie.Need-returns-2
 returns-2 c =
-    (refl, (rw (held c.before.before.before.balance-of.type-inv) c.before.before.before.balance-of.ensures, shown-some _ _ _ _ _ c.before.before.if1.false c.before.entry-date.ensures c.order-carrier.ensures))
+    (refl, (rw (held c.before.before.before.balance-of.type-inv) c.before.before.before.balance-of.ensures, shown_some _ _ _ _ _ c.before.before.if1.false c.before.entry-date.ensures c.order-carrier.ensures))
 
 pub figures-of-spec : {M : Type 1} → statement M
 figures-of-spec =

@@ -45,10 +45,10 @@ use Rattle.model.specs.declared.OrderStatus.{OrderStatus}
 use Rattle.model.specs.declared.Part.{Part}
 use Rattle.model.specs.declared.Selection.{Selection}
 use Rattle.model.specs.declared.StatusOutcome.{StatusOutcome}
-use Rattle.model.specs.Names.{whoOf}
-use Rattle.model.specs.Contracts.{StatusCall}
+use Rattle.model.specs.Names.{who_of}
+use Rattle.model.specs.Promises.{StatusCall}
 use Rattle.order_status.specs.Seen.{ShownCall}
-use Rattle.model.specs.OrderStatus.{part_of, statusLines}
+use Rattle.model.specs.OrderStatus.{part_of, status_lines}
 use Rattle.model.specs.contracts.OrderStatus as Q
 use Rattle.model.proofs.OrderStatus.TheLaws as Q'
 use Rattle.model.specs.contracts.Selection as E
@@ -191,7 +191,7 @@ module _ {M : Type 1} {𝓤 : Ura M} (𝓛 : Logic 𝓤) (mem : Memory → SProp
   tval r y = LL.val (T.the_type α) (T'.the_laws α) (made r y)
 
   abbrev Says : Shown → Type 0
-  Says r = ShownCall b.now n.now o.now t (whoOf w m.now) r
+  Says r = ShownCall b.now n.now o.now t (who_of w m.now) r
 
   -- what `lines_in` says
   abbrev Cut : Shown → Bor (List ℤ) → Type 0
@@ -226,7 +226,7 @@ module _ {M : Type 1} {𝓤 : Ura M} (𝓛 : Logic 𝓤) (mem : Memory → SProp
   y-spelled y x is = ap hd (shr_slice_Tells (named 0) κ i64 y (x ∷ []) is)
 
   exits : (r : Shown) (y : Bor (List ℤ)) → Is O.the_row r.outcome (ovals r.outcome)
-      → StatusCall b.now n.now o.now t (whoOf w m.now) r.outcome y.now b.ref_ptr y.ref_ptr
+      → StatusCall b.now n.now o.now t (who_of w m.now) r.outcome y.now b.ref_ptr y.ref_ptr
       → ent 𝓤 (⋆ 𝓛 ((‵ (flft κ q) ⊛ ‵ ftrue) ∷ Others ∷ ‵ (Shr b (slv b)) ∷ ‵ Names ∷ ‵ Last ∷ ‵ Name ∷ ‵ (Shr y (slv y)) ∷ [])) (Post (tval r y))
   exits r y is e =
       qed 𝓛 ((‵ (flft κ q) ⊛ ‵ ftrue) ∷ Others ∷ ‵ (Shr b (slv b)) ∷ ‵ Names ∷ ‵ Last ∷ ‵ Name ∷ ‵ (Shr y (slv y)) ∷ []) ∵
@@ -238,8 +238,8 @@ module _ {M : Type 1} {𝓤 : Ura M} (𝓛 : Logic 𝓤) (mem : Memory → SProp
       nothing ! $ move ! (1 ∷ 0 ∷ []) $ fjoin ! $ owned ! O.the_row (Is O.the_row) (EL.makes O.the_type O'.the_plain 𝓛) r.outcome _ is $ fjoin ! $ by ! (own_shut 𝓛 (T.the_type α) (T'.the_laws α) (r.outcome, (y, tt)))
 
   -- the lines are those of the part, and lie in the book
-  lines-shown : (r : Shown) (y : Bor (List ℤ)) → Says r → Cut r y → StatusCall b.now n.now o.now t (whoOf w m.now) r.outcome y.now b.ref_ptr y.ref_ptr
-  unfolding statusLines
+  lines-shown : (r : Shown) (y : Bor (List ℤ)) → Says r → Cut r y → StatusCall b.now n.now o.now t (who_of w m.now) r.outcome y.now b.ref_ptr y.ref_ptr
+  unfolding status_lines
   lines-shown r y e c =
       record { says = e.says; shows = c.0 ∙ ap (λ (p : Part). part_of p b.now) e.shows; lies = c.1 ∙ ap (λ (p : Part). (b.ref_ptr.0, b.ref_ptr.1 + 8 * p.from)) e.shows }
 

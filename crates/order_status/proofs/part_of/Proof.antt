@@ -23,11 +23,11 @@ add-from c = search rules
 
 mul-count : tie.Need-overflow-mul-count
 mul-count c =
-    let t = c.before.before.before.requires.1.1.1.1 c.before.before.if1.false in omega (arith, t.hi, c.before.line-count.ensures)
+    let t = c.before.before.before.requires.1.1.1.1 c.before.before.if1.false in omega (arith, t.hi, c.before.line_count.ensures)
 
 returns-2 : tie.Need-returns-2
 returns-2 c =
-    let t = c.before.before.before.requires.1.1.1.1 c.before.before.if1.false in (omega (arith, c.order-at.ensures, c.before.line-count.ensures, t.hi, c.before.before.before.requires.0), lines-some _ _ _ _ _ (omega (arith, c.before.before.if1.false)) c.before.line-count.ensures c.order-at.ensures.0)
+    let t = c.before.before.before.requires.1.1.1.1 c.before.before.if1.false in (omega (arith, c.order-at.ensures, c.before.line_count.ensures, t.hi, c.before.before.before.requires.0), lines-some _ _ _ _ _ (omega (arith, c.before.before.if1.false)) c.before.line_count.ensures c.order-at.ensures.0)
 
 pub part-of-spec : {M : Type 1} → statement M
 part-of-spec =

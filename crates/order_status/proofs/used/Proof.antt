@@ -1,9 +1,9 @@
-use Rattle.order_status.proofs.Stages.{seen_none, seen_all, who-is, who-in, number_is, tests-are, as_one}
-use Rattle.model.proofs.TestLaws.{and_left, turned-away, passed_on}
+use Rattle.order_status.proofs.Stages.{seen_none, seen_all, who-is, who_in, number_is, tests_are, as_one}
+use Rattle.model.proofs.TestLaws.{and_left, turned_away, passed_on}
 use Rattle.model.specs.Tests.{bare}
-use Rattle.model.specs.Names.{whoOf, isFound}
-use Rattle.model.specs.LastOrder.{lastLong}
-use Rattle.model.specs.OrderStatus.{statusUsed, statusOrder}
+use Rattle.model.specs.Names.{who_of, is_found}
+use Rattle.model.specs.LastOrder.{last_long}
+use Rattle.model.specs.OrderStatus.{status_used, status_order}
 use Rattle.rows.proofs.RowTests.{shaped-booked}
 use mathlib.Core.Path.{refl, sym, ap, ◌∙◌}
 use borrow.Author.Tests.{not-false}
@@ -27,9 +27,9 @@ nothing-seen-requires : tie.Need-nothing-seen-requires
 nothing-seen-requires c κs = search rules
 
 returns : tie.Need-returns
-unfolding statusUsed
+unfolding status_used
 returns c =
-    seen_none _ _ (bare 9) refl (turned-away 9 _ c.before.before.district-used.ensures c.before.if1.true refl) c.nothing_Seen.ensures
+    seen_none _ _ (bare 9) refl (turned_away 9 _ c.before.before.district-used.ensures c.before.if1.true refl) c.nothing_Seen.ensures
 
 who-used-requires : tie.Need-who-used-requires
 who-used-requires c κs = search rules
@@ -38,9 +38,9 @@ nothing-seen-requires-2 : tie.Need-nothing-seen-requires-2
 nothing-seen-requires-2 c κs = search rules
 
 returns-2 : tie.Need-returns-2
-unfolding statusUsed
+unfolding status_used
 returns-2 c =
-    seen_none _ _ (bare 9) refl (passed_on 9 _ c.before.before.before.before.district-used.ensures c.before.before.before.if1.false (turned-away 9 _ c.before.before.who-used.ensures c.before.if2.true refl)) c.nothing-seen2.ensures
+    seen_none _ _ (bare 9) refl (passed_on 9 _ c.before.before.before.before.district-used.ensures c.before.before.before.if1.false (turned_away 9 _ c.before.before.who-used.ensures c.before.if2.true refl)) c.nothing-seen2.ensures
 
 customer-of-requires : tie.Need-customer-of-requires
 customer-of-requires c κs = search rules
@@ -55,33 +55,33 @@ nothing-seen-requires-3 : tie.Need-nothing-seen-requires-3
 nothing-seen-requires-3 c κs = search rules
 
 returns-3 : tie.Need-returns-3
-unfolding statusUsed
+unfolding status_used
 returns-3 c =
-    seen_none _ _ (bare 10) refl (passed_on 9 _ c.before.before.before.before.before.before.before.district-used.ensures c.before.before.before.before.before.before.if1.false (passed_on 9 _ c.before.before.before.before.before.who-used.ensures c.before.before.before.before.if2.false (turned-away 10 _ (ap isFound c.before.before.before.customer-of.ensures) (rw c.before.enum_told.given.1) refl))) c.nothing-seen3.ensures
+    seen_none _ _ (bare 10) refl (passed_on 9 _ c.before.before.before.before.before.before.before.district-used.ensures c.before.before.before.before.before.before.if1.false (passed_on 9 _ c.before.before.before.before.before.who-used.ensures c.before.before.before.before.if2.false (turned_away 10 _ (ap is_found c.before.before.before.customer-of.ensures) (rw c.before.enum_told.given.1) refl))) c.nothing-seen3.ensures
 
 last-ok-requires : tie.Need-last-ok-requires
 last-ok-requires c κs =
-    (shaped-booked c.before.before.before.before.before.before.before.before.before.before.requires.0, (c.before.before.before.before.before.before.before.before.before.before.requires.1.w, (c.before.before.before.before.before.before.before.before.before.before.requires.1.k, (who-in c.before.before.before.before.before.before.before.before.before.before.args.d c.before.before.before.before.before.before.before.before.before.before.args.names.now c.before.before.before.before.before.before.before.before.before.before.args.last.now c.before.before.before.before.before.before.before.before.before.before.args.q (whoOf c.before.before.before.before.before.before.before.before.before.before.args.who c.before.before.before.before.before.before.before.before.before.before.args.name.now) c.before.before.before.customer-of.ensures c.before.found.given.1 c.before.before.before.before.before.before.before.before.before.before.requires.1.who-ok, sym c.before.before.before.before.before.before.before.district-used.ensures ∙ not-false c.before.before.before.before.before.before.before.district-used.result c.before.before.before.before.before.before.if1.false))))
+    (shaped-booked c.before.before.before.before.before.before.before.before.before.before.requires.0, (c.before.before.before.before.before.before.before.before.before.before.requires.1.w, (c.before.before.before.before.before.before.before.before.before.before.requires.1.k, (who_in c.before.before.before.before.before.before.before.before.before.before.args.d c.before.before.before.before.before.before.before.before.before.before.args.names.now c.before.before.before.before.before.before.before.before.before.before.args.last.now c.before.before.before.before.before.before.before.before.before.before.args.q (who_of c.before.before.before.before.before.before.before.before.before.before.args.who c.before.before.before.before.before.before.before.before.before.before.args.name.now) c.before.before.before.customer-of.ensures c.before.found.given.1 c.before.before.before.before.before.before.before.before.before.before.requires.1.who_ok, sym c.before.before.before.before.before.before.before.district-used.ensures ∙ not-false c.before.before.before.before.before.before.before.district-used.result c.before.before.before.before.before.before.if1.false))))
 
 nothing-seen-requires-4 : tie.Need-nothing-seen-requires-4
 nothing-seen-requires-4 c κs = search rules
 
 returns-4 : tie.Need-returns-4
-unfolding statusUsed
+unfolding status_used
 returns-4 c =
-    seen_none _ _ (bare 13) refl (passed_on 9 _ c.before.before.before.before.before.before.before.before.before.before.district-used.ensures c.before.before.before.before.before.before.before.before.before.if1.false (passed_on 9 _ c.before.before.before.before.before.before.before.before.who-used.ensures c.before.before.before.before.before.before.before.if2.false (passed_on 10 _ (ap isFound c.before.before.before.before.before.before.customer-of.ensures) (rw c.before.before.before.before.found.given.1) (turned-away 13 _ (tests-are c.before.before.before.before.before.before.before.before.before.before.before.before.before.args.d c.before.before.before.before.before.before.before.before.before.before.before.before.before.args.names.now c.before.before.before.before.before.before.before.before.before.before.before.before.before.args.last.now c.before.before.before.before.before.before.before.before.before.before.before.before.before.args.q (whoOf c.before.before.before.before.before.before.before.before.before.before.before.before.before.args.who c.before.before.before.before.before.before.before.before.before.before.before.before.before.args.name.now) c.before.before.before.before.before.before.customer-of.ensures c.before.before.before.before.found.given.1 c.before.before.before.before.before.before.before.before.before.before.before.before.before.args.b.now c.before.before.last_ok.ensures) c.before.if3.true refl ∙ as_one c.before.before.before.before.before.before.before.before.before.before.before.before.before.args.d c.before.before.before.before.before.before.before.before.before.before.before.before.before.args.b.now c.before.before.before.before.before.before.before.before.before.before.before.before.before.args.last.now c.before.before.before.before.before.before.before.before.before.before.before.before.before.args.q.warehouse c.before.before.before.before.before.before.before.before.before.before.before.before.before.args.q.district (statusOrder c.before.before.before.before.before.before.before.before.before.before.before.before.before.args.d c.before.before.before.before.before.before.before.before.before.before.before.before.before.args.names.now c.before.before.before.before.before.before.before.before.before.before.before.before.before.args.last.now c.before.before.before.before.before.before.before.before.before.before.before.before.before.args.q (whoOf c.before.before.before.before.before.before.before.before.before.before.before.before.before.args.who c.before.before.before.before.before.before.before.before.before.before.before.before.before.args.name.now)) (bare 0) (bare 13))))) c.nothing-seen4.ensures
+    seen_none _ _ (bare 13) refl (passed_on 9 _ c.before.before.before.before.before.before.before.before.before.before.district-used.ensures c.before.before.before.before.before.before.before.before.before.if1.false (passed_on 9 _ c.before.before.before.before.before.before.before.before.who-used.ensures c.before.before.before.before.before.before.before.if2.false (passed_on 10 _ (ap is_found c.before.before.before.before.before.before.customer-of.ensures) (rw c.before.before.before.before.found.given.1) (turned_away 13 _ (tests_are c.before.before.before.before.before.before.before.before.before.before.before.before.before.args.d c.before.before.before.before.before.before.before.before.before.before.before.before.before.args.names.now c.before.before.before.before.before.before.before.before.before.before.before.before.before.args.last.now c.before.before.before.before.before.before.before.before.before.before.before.before.before.args.q (who_of c.before.before.before.before.before.before.before.before.before.before.before.before.before.args.who c.before.before.before.before.before.before.before.before.before.before.before.before.before.args.name.now) c.before.before.before.before.before.before.customer-of.ensures c.before.before.before.before.found.given.1 c.before.before.before.before.before.before.before.before.before.before.before.before.before.args.b.now c.before.before.last_ok.ensures) c.before.if3.true refl ∙ as_one c.before.before.before.before.before.before.before.before.before.before.before.before.before.args.d c.before.before.before.before.before.before.before.before.before.before.before.before.before.args.b.now c.before.before.before.before.before.before.before.before.before.before.before.before.before.args.last.now c.before.before.before.before.before.before.before.before.before.before.before.before.before.args.q.warehouse c.before.before.before.before.before.before.before.before.before.before.before.before.before.args.q.district (status_order c.before.before.before.before.before.before.before.before.before.before.before.before.before.args.d c.before.before.before.before.before.before.before.before.before.before.before.before.before.args.names.now c.before.before.before.before.before.before.before.before.before.before.before.before.before.args.last.now c.before.before.before.before.before.before.before.before.before.before.before.before.before.args.q (who_of c.before.before.before.before.before.before.before.before.before.before.before.before.before.args.who c.before.before.before.before.before.before.before.before.before.before.before.before.before.args.name.now)) (bare 0) (bare 13))))) c.nothing-seen4.ensures
 
 last-of-requires : tie.Need-last-of-requires
 last-of-requires c κs =
-    (c.before.before.before.before.before.before.before.before.before.before.before.before.requires.0.dimsd, (c.before.before.before.before.before.before.before.before.before.before.before.before.requires.1.w, (c.before.before.before.before.before.before.before.before.before.before.before.before.requires.1.k, (who-in c.before.before.before.before.before.before.before.before.before.before.before.before.args.d c.before.before.before.before.before.before.before.before.before.before.before.before.args.names.now c.before.before.before.before.before.before.before.before.before.before.before.before.args.last.now c.before.before.before.before.before.before.before.before.before.before.before.before.args.q (whoOf c.before.before.before.before.before.before.before.before.before.before.before.before.args.who c.before.before.before.before.before.before.before.before.before.before.before.before.args.name.now) c.before.before.before.before.before.customer-of.ensures c.before.before.before.found.given.1 c.before.before.before.before.before.before.before.before.before.before.before.before.requires.1.who-ok, and_left (lastLong c.before.before.before.before.before.before.before.before.before.before.before.before.args.d c.before.before.before.before.before.before.before.before.before.before.before.before.args.last.now) _ (sym c.before.last_ok.ensures ∙ not-false c.before.last_ok.result c.if3.false)))))
+    (c.before.before.before.before.before.before.before.before.before.before.before.before.requires.0.dimsd, (c.before.before.before.before.before.before.before.before.before.before.before.before.requires.1.w, (c.before.before.before.before.before.before.before.before.before.before.before.before.requires.1.k, (who_in c.before.before.before.before.before.before.before.before.before.before.before.before.args.d c.before.before.before.before.before.before.before.before.before.before.before.before.args.names.now c.before.before.before.before.before.before.before.before.before.before.before.before.args.last.now c.before.before.before.before.before.before.before.before.before.before.before.before.args.q (who_of c.before.before.before.before.before.before.before.before.before.before.before.before.args.who c.before.before.before.before.before.before.before.before.before.before.before.before.args.name.now) c.before.before.before.before.before.customer-of.ensures c.before.before.before.found.given.1 c.before.before.before.before.before.before.before.before.before.before.before.before.requires.1.who_ok, and_left (last_long c.before.before.before.before.before.before.before.before.before.before.before.before.args.d c.before.before.before.before.before.before.before.before.before.before.before.before.args.last.now) _ (sym c.before.last_ok.ensures ∙ not-false c.before.last_ok.result c.if3.false)))))
 
 refused-requires : tie.Need-refused-requires
 refused-requires c κs = search rules
 
 returns-5 : tie.Need-returns-5
-unfolding statusUsed
+unfolding status_used
 returns-5 c =
-    seen_all c.refused.ensures (passed_on 9 _ c.before.before.before.before.before.before.before.before.before.before.before.district-used.ensures c.before.before.before.before.before.before.before.before.before.before.if1.false (passed_on 9 _ c.before.before.before.before.before.before.before.before.before.who-used.ensures c.before.before.before.before.before.before.before.before.if2.false (passed_on 10 _ (ap isFound c.before.before.before.before.before.before.before.customer-of.ensures) (rw c.before.before.before.before.before.found.given.1) (passed_on 13 _ (tests-are c.before.before.before.before.before.before.before.before.before.before.before.before.before.before.args.d c.before.before.before.before.before.before.before.before.before.before.before.before.before.before.args.names.now c.before.before.before.before.before.before.before.before.before.before.before.before.before.before.args.last.now c.before.before.before.before.before.before.before.before.before.before.before.before.before.before.args.q (whoOf c.before.before.before.before.before.before.before.before.before.before.before.before.before.before.args.who c.before.before.before.before.before.before.before.before.before.before.before.before.before.before.args.name.now) c.before.before.before.before.before.before.before.customer-of.ensures c.before.before.before.before.before.found.given.1 c.before.before.before.before.before.before.before.before.before.before.before.before.before.before.args.b.now c.before.before.before.last_ok.ensures) c.before.before.if3.false c.refused.ensures ∙ as_one c.before.before.before.before.before.before.before.before.before.before.before.before.before.before.args.d c.before.before.before.before.before.before.before.before.before.before.before.before.before.before.args.b.now c.before.before.before.before.before.before.before.before.before.before.before.before.before.before.args.last.now c.before.before.before.before.before.before.before.before.before.before.before.before.before.before.args.q.warehouse c.before.before.before.before.before.before.before.before.before.before.before.before.before.before.args.q.district (statusOrder c.before.before.before.before.before.before.before.before.before.before.before.before.before.before.args.d c.before.before.before.before.before.before.before.before.before.before.before.before.before.before.args.names.now c.before.before.before.before.before.before.before.before.before.before.before.before.before.before.args.last.now c.before.before.before.before.before.before.before.before.before.before.before.before.before.before.args.q (whoOf c.before.before.before.before.before.before.before.before.before.before.before.before.before.before.args.who c.before.before.before.before.before.before.before.before.before.before.before.before.before.before.args.name.now)) (bare 0) (bare 13))))) (who-is c.before.before.before.before.before.before.before.before.before.before.before.before.before.before.args.d c.before.before.before.before.before.before.before.before.before.before.before.before.before.before.args.names.now c.before.before.before.before.before.before.before.before.before.before.before.before.before.before.args.last.now c.before.before.before.before.before.before.before.before.before.before.before.before.before.before.args.q (whoOf c.before.before.before.before.before.before.before.before.before.before.before.before.before.before.args.who c.before.before.before.before.before.before.before.before.before.before.before.before.before.before.args.name.now) c.before.before.before.before.before.before.before.customer-of.ensures c.before.before.before.before.before.found.given.1) (number_is c.before.before.before.before.before.before.before.before.before.before.before.before.before.before.args.d c.before.before.before.before.before.before.before.before.before.before.before.before.before.before.args.names.now c.before.before.before.before.before.before.before.before.before.before.before.before.before.before.args.last.now c.before.before.before.before.before.before.before.before.before.before.before.before.before.before.args.q (whoOf c.before.before.before.before.before.before.before.before.before.before.before.before.before.before.args.who c.before.before.before.before.before.before.before.before.before.before.before.before.before.before.args.name.now) c.before.before.before.before.before.before.before.customer-of.ensures c.before.before.before.before.before.found.given.1 c.before.last_of.ensures)
+    seen_all c.refused.ensures (passed_on 9 _ c.before.before.before.before.before.before.before.before.before.before.before.district-used.ensures c.before.before.before.before.before.before.before.before.before.before.if1.false (passed_on 9 _ c.before.before.before.before.before.before.before.before.before.who-used.ensures c.before.before.before.before.before.before.before.before.if2.false (passed_on 10 _ (ap is_found c.before.before.before.before.before.before.before.customer-of.ensures) (rw c.before.before.before.before.before.found.given.1) (passed_on 13 _ (tests_are c.before.before.before.before.before.before.before.before.before.before.before.before.before.before.args.d c.before.before.before.before.before.before.before.before.before.before.before.before.before.before.args.names.now c.before.before.before.before.before.before.before.before.before.before.before.before.before.before.args.last.now c.before.before.before.before.before.before.before.before.before.before.before.before.before.before.args.q (who_of c.before.before.before.before.before.before.before.before.before.before.before.before.before.before.args.who c.before.before.before.before.before.before.before.before.before.before.before.before.before.before.args.name.now) c.before.before.before.before.before.before.before.customer-of.ensures c.before.before.before.before.before.found.given.1 c.before.before.before.before.before.before.before.before.before.before.before.before.before.before.args.b.now c.before.before.before.last_ok.ensures) c.before.before.if3.false c.refused.ensures ∙ as_one c.before.before.before.before.before.before.before.before.before.before.before.before.before.before.args.d c.before.before.before.before.before.before.before.before.before.before.before.before.before.before.args.b.now c.before.before.before.before.before.before.before.before.before.before.before.before.before.before.args.last.now c.before.before.before.before.before.before.before.before.before.before.before.before.before.before.args.q.warehouse c.before.before.before.before.before.before.before.before.before.before.before.before.before.before.args.q.district (status_order c.before.before.before.before.before.before.before.before.before.before.before.before.before.before.args.d c.before.before.before.before.before.before.before.before.before.before.before.before.before.before.args.names.now c.before.before.before.before.before.before.before.before.before.before.before.before.before.before.args.last.now c.before.before.before.before.before.before.before.before.before.before.before.before.before.before.args.q (who_of c.before.before.before.before.before.before.before.before.before.before.before.before.before.before.args.who c.before.before.before.before.before.before.before.before.before.before.before.before.before.before.args.name.now)) (bare 0) (bare 13))))) (who-is c.before.before.before.before.before.before.before.before.before.before.before.before.before.before.args.d c.before.before.before.before.before.before.before.before.before.before.before.before.before.before.args.names.now c.before.before.before.before.before.before.before.before.before.before.before.before.before.before.args.last.now c.before.before.before.before.before.before.before.before.before.before.before.before.before.before.args.q (who_of c.before.before.before.before.before.before.before.before.before.before.before.before.before.before.args.who c.before.before.before.before.before.before.before.before.before.before.before.before.before.before.args.name.now) c.before.before.before.before.before.before.before.customer-of.ensures c.before.before.before.before.before.found.given.1) (number_is c.before.before.before.before.before.before.before.before.before.before.before.before.before.before.args.d c.before.before.before.before.before.before.before.before.before.before.before.before.before.before.args.names.now c.before.before.before.before.before.before.before.before.before.before.before.before.before.before.args.last.now c.before.before.before.before.before.before.before.before.before.before.before.before.before.before.args.q (who_of c.before.before.before.before.before.before.before.before.before.before.before.before.before.before.args.who c.before.before.before.before.before.before.before.before.before.before.before.before.before.before.args.name.now) c.before.before.before.before.before.before.before.customer-of.ensures c.before.before.before.before.before.found.given.1 c.before.last_of.ensures)
 
 pub used-spec : {M : Type 1} → statement M
 used-spec =

@@ -1,5 +1,5 @@
 use Rattle.lookup.proofs.Who.{number_in}
-use Rattle.model.specs.Used.{whoUsed}
+use Rattle.model.specs.Used.{who_used}
 use Prim.Native.Nat.{◌-◌}
 use borrow.Author.Rules.{rules}
 use Rattle.order_status.proofs.who_used.Statement.{statement}
@@ -23,12 +23,12 @@ named-used-requires : tie.Need-named-used-requires
 named-used-requires c κs = search rules
 
 returns : tie.Need-returns
-unfolding whoUsed
+unfolding who_used
 returns c =
     rw c.before.before.who.given.1 c.customer-used.ensures
 
 returns-2 : tie.Need-returns-2
-unfolding whoUsed
+unfolding who_used
 returns-2 c =
     rw c.before.enum_told.given.1 c.named-used.ensures
 

@@ -1,7 +1,7 @@
 use borrow.Author.Tests.{not-true, not-false}
-use Rattle.model.specs.Payment.{payUsed, payer}
-use Rattle.model.specs.Used.{whoUsed}
-use Rattle.model.specs.Names.{customerOf}
+use Rattle.model.specs.Payment.{pay_used, payer}
+use Rattle.model.specs.Used.{who_used}
+use Rattle.model.specs.Names.{customer_of}
 use Prim.Native.Nat.{◌-◌}
 use mathlib.Core.Path.{◌∙◌}
 use borrow.Author.Rules.{rules}
@@ -21,7 +21,7 @@ nobody-pays-requires : tie.Need-nobody-pays-requires
 nobody-pays-requires c κs = search rules
 
 returns : tie.Need-returns
-unfolding payUsed whoUsed
+unfolding pay_used who_used
 returns c =
     c.nobody-pays.ensures ∙ simp (← c.before.before.named-used.ensures, not-true c.before.before.named-used.result c.before.if1.true)
 
@@ -38,7 +38,7 @@ nobody-pays-requires-2 : tie.Need-nobody-pays-requires-2
 nobody-pays-requires-2 c κs = search rules
 
 returns-2 : tie.Need-returns-2
-unfolding payUsed whoUsed customerOf
+unfolding pay_used who_used customer_of
 returns-2 c =
     c.nobody-pays2.ensures ∙ simp (← c.before.before.before.before.before.named-used.ensures, not-false c.before.before.before.before.before.named-used.result c.before.before.before.before.if1.false, ← c.before.before.before.find.ensures, c.before.enum_told.given.1)
 
@@ -46,7 +46,7 @@ with-room-requires : tie.Need-with-room-requires
 with-room-requires c κs = search rules
 
 returns-3 : tie.Need-returns-3
-unfolding payUsed whoUsed customerOf payer
+unfolding pay_used who_used customer_of payer
 returns-3 c =
     c.with-room.ensures ∙ simp (← c.before.before.before.before.before.before.named-used.ensures, not-false c.before.before.before.before.before.before.named-used.result c.before.before.before.before.before.if1.false, ← c.before.before.before.before.find.ensures, c.before.before.found.given.1)
 

@@ -1,7 +1,7 @@
-use Rattle.model.specs.Payment.{paidBalance}
+use Rattle.model.specs.Payment.{paid_balance}
 use Rattle.payment.specs.declared.Plan.{Plan}
 use Rattle.payment.specs.Plan.{plan_of}
-use Rattle.payment.proofs.Joint.{plan_run, bad-noted, good-kept}
+use Rattle.payment.proofs.Joint.{plan_run, bad_noted, good_kept}
 use Rattle.cells.proofs.Signed.{held}
 use borrow.Author.Tests.{not-true, not-false}
 use borrow.Author.Rules.{rules}
@@ -24,9 +24,9 @@ same_length : tie.Need-same-length
 same_length c = search rules
 
 returns : tie.Need-returns
-unfolding paidBalance plan_of
+unfolding paid_balance plan_of
 returns c =
-    record { answers = rw (held c.struct_told.given.1.1.1.1.1.0.1, c.before.before.before.before.before.before.plan-of.ensures.0); leaves = c.before.before.before.before.store-plan.ensures ∙ rw c.before.before.before.before.before.before.plan-of.ensures.0 (plan_run _ _ _ _ c.before.before.before.before.before.before.before.before.before.requires.0); writes = good-kept c.before.before.before.before.before.before.before.before.before.args.d c.before.before.before.before.before.before.before.before.before.args.b.now c.before.before.before.before.before.before.before.before.before.args.notes.now c.before.before.before.before.before.before.before.before.before.args.q c.before.before.before.before.before.before.before.before.before.args.c (ap (λ (p : Plan). p.bad) c.before.before.before.before.before.before.plan-of.ensures.0) (not-true c.before.before.before.before.before.before.plan-of.result.bad c.before.if1.true) }
+    record { answers = rw (held c.struct_told.given.1.1.1.1.1.0.1, c.before.before.before.before.before.before.plan-of.ensures.0); leaves = c.before.before.before.before.store-plan.ensures ∙ rw c.before.before.before.before.before.before.plan-of.ensures.0 (plan_run _ _ _ _ c.before.before.before.before.before.before.before.before.before.requires.0); writes = good_kept c.before.before.before.before.before.before.before.before.before.args.d c.before.before.before.before.before.before.before.before.before.args.b.now c.before.before.before.before.before.before.before.before.before.args.notes.now c.before.before.before.before.before.before.before.before.before.args.q c.before.before.before.before.before.before.before.before.before.args.c (ap (λ (p : Plan). p.bad) c.before.before.before.before.before.before.plan-of.ensures.0) (not-true c.before.before.before.before.before.before.plan-of.result.bad c.before.if1.true) }
 
 note-requires : tie.Need-note-requires
 note-requires c κs = search rules
@@ -38,9 +38,9 @@ same-length-3 : tie.Need-same-length-3
 same-length-3 c = search rules
 
 returns-2 : tie.Need-returns-2
-unfolding paidBalance plan_of
+unfolding paid_balance plan_of
 returns-2 c =
-    record { answers = rw (held c.struct-told2.given.1.1.1.1.1.0.1, c.before.before.before.before.before.before.before.before.before.before.plan-of.ensures.0); leaves = c.before.before.before.before.before.before.before.before.store-plan.ensures ∙ rw c.before.before.before.before.before.before.before.before.before.before.plan-of.ensures.0 (plan_run _ _ _ _ c.before.before.before.before.before.before.before.before.before.before.before.before.before.requires.0); writes = c.before.before.before.note.ensures ∙ bad-noted c.before.before.before.before.before.before.before.before.before.before.before.before.before.args.d c.before.before.before.before.before.before.before.before.before.before.before.before.before.args.b.now c.before.before.before.before.before.before.before.before.before.before.before.before.before.args.notes.now c.before.before.before.before.before.before.before.before.before.before.before.before.before.args.q c.before.before.before.before.before.before.before.before.before.before.before.before.before.args.c (ap (λ (p : Plan). p.bad) c.before.before.before.before.before.before.before.before.before.before.plan-of.ensures.0) (not-false c.before.before.before.before.before.before.before.before.before.before.plan-of.result.bad c.before.before.before.before.before.if1.false) }
+    record { answers = rw (held c.struct-told2.given.1.1.1.1.1.0.1, c.before.before.before.before.before.before.before.before.before.before.plan-of.ensures.0); leaves = c.before.before.before.before.before.before.before.before.store-plan.ensures ∙ rw c.before.before.before.before.before.before.before.before.before.before.plan-of.ensures.0 (plan_run _ _ _ _ c.before.before.before.before.before.before.before.before.before.before.before.before.before.requires.0); writes = c.before.before.before.note.ensures ∙ bad_noted c.before.before.before.before.before.before.before.before.before.before.before.before.before.args.d c.before.before.before.before.before.before.before.before.before.before.before.before.before.args.b.now c.before.before.before.before.before.before.before.before.before.before.before.before.before.args.notes.now c.before.before.before.before.before.before.before.before.before.before.before.before.before.args.q c.before.before.before.before.before.before.before.before.before.before.before.before.before.args.c (ap (λ (p : Plan). p.bad) c.before.before.before.before.before.before.before.before.before.before.plan-of.ensures.0) (not-false c.before.before.before.before.before.before.before.before.before.before.plan-of.result.bad c.before.before.before.before.before.if1.false) }
 
 pub commit-spec : {M : Type 1} → statement M
 commit-spec =

@@ -1,10 +1,10 @@
 use borrow.Author.Tests.{ne_eqb}
-use Rattle.payment.specs.Plan.{payerBy}
-use Rattle.model.proofs.PaymentFacts.{pay-asked-numbered, pay-asked}
-use Rattle.model.proofs.TestLaws.{fault-then, fault-first}
-use Rattle.model.specs.Payment.{payAsked, payUsed, payer}
+use Rattle.payment.specs.Plan.{payer_by}
+use Rattle.model.proofs.PaymentFacts.{pay_asked_numbered, pay_asked_lem}
+use Rattle.model.proofs.TestLaws.{fault_then, fault-first}
+use Rattle.model.specs.Payment.{pay_asked, pay_used, payer}
 use Rattle.model.specs.declared.Refusal.{Refusal}
-use Rattle.model.specs.Names.{whoOf}
+use Rattle.model.specs.Names.{who_of}
 use Prim.Native.Nat.{◌-◌}
 use mathlib.Core.Path.{sym, ap, ◌∙◌}
 use borrow.Author.Rules.{rules}
@@ -20,17 +20,17 @@ asked-requires c κs = search rules
 
 used-requires : tie.Need-used-requires
 used-requires c κs =
-    (c.before.before.before.before.before.requires, pay-asked c.before.before.before.before.before.args.d c.before.before.before.before.before.args.q (whoOf c.before.before.before.before.before.args.who c.before.before.before.before.before.args.name.now) (ap (λ (x : Refusal). x.number) (sym c.before.before.asked.ensures) ∙ c.if1.true))
+    (c.before.before.before.before.before.requires, pay_asked_lem c.before.before.before.before.before.args.d c.before.before.before.before.before.args.q (who_of c.before.before.before.before.before.args.who c.before.before.before.before.before.args.name.now) (ap (λ (x : Refusal). x.number) (sym c.before.before.asked.ensures) ∙ c.if1.true))
 
 returns : tie.Need-returns
 returns c =
-    let d = c.before.before.before.before.before.before.args.d in let b = c.before.before.before.before.before.before.args.b.now in let names = c.before.before.before.before.before.before.args.names.now in let q = c.before.before.before.before.before.before.args.q in let w = whoOf c.before.before.before.before.before.before.args.who c.before.before.before.before.before.before.args.name.now in
-    c.used.ensures ∙ ap (λ (r : Refusal). payerBy r (payer d names q w)) (sym (fault-then (payAsked d q w) (payUsed d b names q w) (ap (λ (x : Refusal). x.number) (sym c.before.before.before.asked.ensures) ∙ c.before.if1.true) (pay-asked-numbered d q w)))
+    let d = c.before.before.before.before.before.before.args.d in let b = c.before.before.before.before.before.before.args.b.now in let names = c.before.before.before.before.before.before.args.names.now in let q = c.before.before.before.before.before.before.args.q in let w = who_of c.before.before.before.before.before.before.args.who c.before.before.before.before.before.before.args.name.now in
+    c.used.ensures ∙ ap (λ (r : Refusal). payer_by r (payer d names q w)) (sym (fault_then (pay_asked d q w) (pay_used d b names q w) (ap (λ (x : Refusal). x.number) (sym c.before.before.before.asked.ensures) ∙ c.before.if1.true) (pay_asked_numbered d q w)))
 
 returns-2 : tie.Need-returns-2
 returns-2 c =
-    let d = c.before.before.before.before.before.args.d in let b = c.before.before.before.before.before.args.b.now in let names = c.before.before.before.before.before.args.names.now in let q = c.before.before.before.before.before.args.q in let w = whoOf c.before.before.before.before.before.args.who c.before.before.before.before.before.args.name.now in
-    let e = c.before.before.asked.ensures ∙ sym (fault-first (payAsked d q w) (payUsed d b names q w) (λ z. c.if1.false (ap (λ (x : Refusal). x.number) c.before.before.asked.ensures ∙ z))) in
+    let d = c.before.before.before.before.before.args.d in let b = c.before.before.before.before.before.args.b.now in let names = c.before.before.before.before.before.args.names.now in let q = c.before.before.before.before.before.args.q in let w = who_of c.before.before.before.before.before.args.who c.before.before.before.before.before.args.name.now in
+    let e = c.before.before.asked.ensures ∙ sym (fault-first (pay_asked d q w) (pay_used d b names q w) (λ z. c.if1.false (ap (λ (x : Refusal). x.number) c.before.before.asked.ensures ∙ z))) in
     rw (← e, ne_eqb c.before.before.asked.result.number 0 c.if1.false)
 
 pub payer-in-spec : {M : Type 1} → statement M

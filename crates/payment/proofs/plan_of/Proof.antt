@@ -1,10 +1,10 @@
 use Rattle.model.specs.Layout.{shapes}
 use Rattle.model.specs.Store.{get}
 use Rattle.model.specs.Numbers.{cell}
-use Rattle.model.proofs.Fields.{head-num, head-place, get-col}
+use Rattle.model.proofs.Fields.{head-num, head-place, get_col}
 use Rattle.rows.proofs.RowTests.{read_is, read_first}
 use Rattle.payment.proofs.Joint.{col}
-use Rattle.model.specs.Payment.{isBad}
+use Rattle.model.specs.Payment.{is_bad}
 use Rattle.payment.specs.Plan.{plan_of}
 use Rattle.cells.proofs.Signed.{held}
 use mathlib.Core.Path.{refl}
@@ -44,7 +44,7 @@ held-requires c κs =
 
 add-warehouseytd : tie.Need-overflow-add-warehouseytd
 add-warehouseytd c =
-    let h1 : c.before.held.result ≤ 999999999999 = rw (read_is c.before.before.before.before.before.args.d c.before.before.before.before.before.args.b.now 1 c.before.before.before.before.before.args.q.warehouse 1 1 1 c.before.held.ensures c.before.before.before.before.warehouse-at.ensures.0) c.before.before.before.before.before.requires.warehouse.ytd in omega (arith, c.before.before.before.before.before.requires.amount-high)
+    let h1 : c.before.held.result ≤ 999999999999 = rw (read_is c.before.before.before.before.before.args.d c.before.before.before.before.before.args.b.now 1 c.before.before.before.before.before.args.q.warehouse 1 1 1 c.before.held.ensures c.before.before.before.before.warehouse-at.ensures.0) c.before.before.before.before.before.requires.warehouse.ytd in omega (arith, c.before.before.before.before.before.requires.amount_high)
 
 held-requires-2 : tie.Need-held-requires-2
 held-requires-2 c κs =
@@ -52,7 +52,7 @@ held-requires-2 c κs =
 
 add-districtytd : tie.Need-overflow-add-districtytd
 add-districtytd c =
-    let h2 : c.before.held2.result ≤ 999999999999 = rw (read_is c.before.before.before.before.before.before.before.args.d c.before.before.before.before.before.before.before.args.b.now 2 c.before.before.before.before.before.before.before.args.q.warehouse c.before.before.before.before.before.before.before.args.q.district 1 1 c.before.held2.ensures c.before.before.before.before.before.district-at.ensures.0) c.before.before.before.before.before.before.before.requires.district.ytd in omega (arith, c.before.before.before.before.before.before.before.requires.amount-high)
+    let h2 : c.before.held2.result ≤ 999999999999 = rw (read_is c.before.before.before.before.before.before.before.args.d c.before.before.before.before.before.before.before.args.b.now 2 c.before.before.before.before.before.before.before.args.q.warehouse c.before.before.before.before.before.before.before.args.q.district 1 1 c.before.held2.ensures c.before.before.before.before.before.district-at.ensures.0) c.before.before.before.before.before.before.before.requires.district.ytd in omega (arith, c.before.before.before.before.before.before.before.requires.amount_high)
 
 add-balance : tie.Need-overflow-add-balance
 add-balance c = search rules
@@ -62,7 +62,7 @@ get-signed-requires c κs = search rules
 
 balance-less-requires : tie.Need-balance-less-requires
 balance-less-requires c κs =
-    (rw (held c.get-signed.type-inv, c.get-signed.ensures, c.before.before.before.before.before.customer-at.ensures.0, get-col (shapes c.before.before.before.before.before.before.before.before.args.d) c.before.before.before.before.before.before.before.before.args.b.now 3 c.before.before.before.before.before.before.before.before.args.q.custwarehouse c.before.before.before.before.before.before.before.before.args.q.custdistrict c.before.before.before.before.before.before.before.before.args.c 2) c.before.before.before.before.before.before.before.before.requires.customer.balanced, omega (arith, c.before.before.before.before.before.before.before.before.requires.amount-high))
+    (rw (held c.get-signed.type-inv, c.get-signed.ensures, c.before.before.before.before.before.customer-at.ensures.0, get_col (shapes c.before.before.before.before.before.before.before.before.args.d) c.before.before.before.before.before.before.before.before.args.b.now 3 c.before.before.before.before.before.before.before.before.args.q.custwarehouse c.before.before.before.before.before.before.before.before.args.q.custdistrict c.before.before.before.before.before.before.before.before.args.c 2) c.before.before.before.before.before.before.before.before.requires.customer.balanced, omega (arith, c.before.before.before.before.before.before.before.before.requires.amount_high))
 
 add-paid : tie.Need-overflow-add-paid
 add-paid c = search rules
@@ -73,7 +73,7 @@ held-requires-3 c κs =
 
 add-newpaid : tie.Need-overflow-add-newpaid
 add-newpaid c =
-    let h3 : c.before.held3.result ≤ 999999999999 = rw (read_is c.before.before.before.before.before.before.before.before.before.before.before.args.d c.before.before.before.before.before.before.before.before.before.before.before.args.b.now 3 c.before.before.before.before.before.before.before.before.before.before.before.args.q.custwarehouse c.before.before.before.before.before.before.before.before.before.before.before.args.q.custdistrict c.before.before.before.before.before.before.before.before.before.before.before.args.c 3 c.before.held3.ensures c.before.before.before.before.before.before.before.before.customer-at.ensures.0) c.before.before.before.before.before.before.before.before.before.before.before.requires.customer.paid in omega (arith, c.before.before.before.before.before.before.before.before.before.before.before.requires.amount-high)
+    let h3 : c.before.held3.result ≤ 999999999999 = rw (read_is c.before.before.before.before.before.before.before.before.before.before.before.args.d c.before.before.before.before.before.before.before.before.before.before.before.args.b.now 3 c.before.before.before.before.before.before.before.before.before.before.before.args.q.custwarehouse c.before.before.before.before.before.before.before.before.before.before.before.args.q.custdistrict c.before.before.before.before.before.before.before.before.before.before.before.args.c 3 c.before.held3.ensures c.before.before.before.before.before.before.before.before.customer-at.ensures.0) c.before.before.before.before.before.before.before.before.before.before.before.requires.customer.paid in omega (arith, c.before.before.before.before.before.before.before.before.before.before.before.requires.amount_high)
 
 add-payments : tie.Need-overflow-add-payments
 add-payments c = search rules
@@ -103,7 +103,7 @@ held-requires-6 c κs =
     (search rules, omega (arith, read_first c.before.before.before.before.before.before.before.before.before.before.before.before.before.before.args.d c.before.before.before.before.before.before.before.before.before.before.before.before.before.before.args.b.now 3 c.before.before.before.before.before.before.before.before.before.before.before.before.before.before.args.q.custwarehouse c.before.before.before.before.before.before.before.before.before.before.before.before.before.before.args.q.custdistrict c.before.before.before.before.before.before.before.before.before.before.before.before.before.before.args.c refl c.before.before.before.before.before.before.before.before.before.before.before.customer-at.ensures.0, c.before.before.before.before.before.before.before.before.before.before.before.before.before.before.requires.customer.credit))
 
 returns : tie.Need-returns
-unfolding plan_of isBad cell get
+unfolding plan_of is_bad cell get
 returns c =
     let h1 : c.before.before.before.before.before.before.before.before.before.before.before.held.result ≤ 999999999999 = rw (read_is c.before.before.before.before.before.before.before.before.before.before.before.before.before.before.before.args.d c.before.before.before.before.before.before.before.before.before.before.before.before.before.before.before.args.b.now 1 c.before.before.before.before.before.before.before.before.before.before.before.before.before.before.before.args.q.warehouse 1 1 1 c.before.before.before.before.before.before.before.before.before.before.before.held.ensures c.before.before.before.before.before.before.before.before.before.before.before.before.before.before.warehouse-at.ensures.0) c.before.before.before.before.before.before.before.before.before.before.before.before.before.before.before.requires.warehouse.ytd in
     let h2 : c.before.before.before.before.before.before.before.before.before.held2.result ≤ 999999999999 = rw (read_is c.before.before.before.before.before.before.before.before.before.before.before.before.before.before.before.args.d c.before.before.before.before.before.before.before.before.before.before.before.before.before.before.before.args.b.now 2 c.before.before.before.before.before.before.before.before.before.before.before.before.before.before.before.args.q.warehouse c.before.before.before.before.before.before.before.before.before.before.before.before.before.before.before.args.q.district 1 1 c.before.before.before.before.before.before.before.before.before.held2.ensures c.before.before.before.before.before.before.before.before.before.before.before.before.before.district-at.ensures.0) c.before.before.before.before.before.before.before.before.before.before.before.before.before.before.before.requires.district.ytd in
@@ -132,7 +132,7 @@ returns c =
         col c.before.before.before.before.before.before.before.before.before.before.before.before.before.before.before.args.d 3 c.before.before.before.before.before.before.before.before.before.before.before.before.before.before.before.args.q.custwarehouse c.before.before.before.before.before.before.before.before.before.before.before.before.before.before.before.args.q.custdistrict c.before.before.before.before.before.before.before.before.before.before.before.before.before.before.before.args.c 4,
         head-place c.before.before.before.before.before.before.before.before.before.before.before.before.before.before.before.args.d,
       ),
-      omega (arith, c.before.before.before.before.before.before.before.before.before.before.before.before.before.before.before.requires.long, c.before.before.before.before.before.before.before.before.before.before.before.before.before.before.before.requires.six, c.before.before.before.before.before.before.before.before.before.before.before.before.before.before.before.requires.amount-high, c.before.before.before.before.before.before.before.before.before.before.before.before.before.before.before.requires.dimsd, c.before.before.before.before.before.before.before.before.before.before.before.before.before.before.warehouse-at.ensures, c.before.before.before.before.before.before.before.before.before.before.before.before.before.district-at.ensures, c.before.before.before.before.before.before.before.before.before.before.before.before.customer-at.ensures, c.before.history-at.ensures),
+      omega (arith, c.before.before.before.before.before.before.before.before.before.before.before.before.before.before.before.requires.long, c.before.before.before.before.before.before.before.before.before.before.before.before.before.before.before.requires.six, c.before.before.before.before.before.before.before.before.before.before.before.before.before.before.before.requires.amount_high, c.before.before.before.before.before.before.before.before.before.before.before.before.before.before.before.requires.dimsd, c.before.before.before.before.before.before.before.before.before.before.before.before.before.before.warehouse-at.ensures, c.before.before.before.before.before.before.before.before.before.before.before.before.before.district-at.ensures, c.before.before.before.before.before.before.before.before.before.before.before.before.customer-at.ensures, c.before.history-at.ensures),
     )
 
 pub plan-of-spec : {M : Type 1} → statement M

@@ -1,4 +1,4 @@
-use Rattle.payment.specs.Plan.{storePlan}
+use Rattle.payment.specs.Plan.{store_plan}
 use Rattle.cells.proofs.Signed.{held}
 use Prim.Native.Nat.{◌-◌}
 use borrow.Author.Rules.{rules}
@@ -35,7 +35,7 @@ same_length : tie.Need-same-length
 same_length c = search rules
 
 returns : tie.Need-returns
-unfolding storePlan
+unfolding store_plan
 returns c =
     rw (c.before.put5.ensures, c.before.before.before.before.store-history.ensures, c.before.before.before.before.before.before.before.put4.ensures, c.before.before.before.before.before.before.before.before.before.before.put3.ensures, c.before.before.before.before.before.before.before.before.before.before.before.before.before.put-signed.ensures, c.before.before.before.before.before.before.before.before.before.before.before.before.before.before.before.before.before.put2.ensures, c.before.before.before.before.before.before.before.before.before.before.before.before.before.before.before.before.before.before.before.before.put.ensures, held c.before.before.before.before.before.before.before.before.before.before.before.before.before.before.struct_told.given.1.1.1.1.1.0.1)
 

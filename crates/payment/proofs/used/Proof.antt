@@ -1,8 +1,8 @@
 use mathlib.Core.Path.{◌∙◌, subst}
 use Rattle.model.proofs.PaymentFacts.{PayAsked}
 use Rattle.model.specs.declared.Selection.{Selection}
-use Rattle.model.specs.Names.{whoOf}
-use Rattle.payment.proofs.Joint.{used-none, used-rest}
+use Rattle.model.specs.Names.{who_of}
+use Rattle.payment.proofs.Joint.{used_none, used-rest}
 use Prim.Native.Nat.{◌-◌}
 use mathlib.Core.Path.{◌∙◌}
 use borrow.Author.Rules.{rules}
@@ -23,14 +23,14 @@ nobody-pays-requires c κs = search rules
 
 returns : tie.Need-returns
 returns c =
-    c.nobody-pays.ensures ∙ used-none _ _ _ _ _ c.before.before.terminal-used.ensures c.before.if1.true
+    c.nobody-pays.ensures ∙ used_none _ _ _ _ _ c.before.before.terminal-used.ensures c.before.if1.true
 
 enum-known-who : tie.Need-enum-known-who
 enum-known-who c = search rules
 
 by-number-requires : tie.Need-by-number-requires
 by-number-requires c κs =
-    (c.before.before.before.before.before.before.before.requires.0, subst (λ (x : Selection). PayAsked c.before.before.before.before.before.before.before.args.d c.before.before.before.before.before.before.before.args.q (whoOf x c.before.before.before.before.before.before.before.args.name.now)) c.before.who.given.1 c.before.before.before.before.before.before.before.requires.1)
+    (c.before.before.before.before.before.before.before.requires.0, subst (λ (x : Selection). PayAsked c.before.before.before.before.before.before.before.args.d c.before.before.before.before.before.before.before.args.q (who_of x c.before.before.before.before.before.before.before.args.name.now)) c.before.who.given.1 c.before.before.before.before.before.before.before.requires.1)
 
 enum_told : tie.Need-enum-told
 enum_told c = search rules

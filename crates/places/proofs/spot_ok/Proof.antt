@@ -1,4 +1,4 @@
-use Rattle.places.specs.Places.{spotTests}
+use Rattle.places.specs.Places.{spot_tests}
 use Rattle.model.proofs.TestLaws.{and_same}
 use borrow.Author.Rules.{rules}
 use Rattle.places.proofs.spot_ok.Statement.{statement}
@@ -26,7 +26,7 @@ within-requires-6 : tie.Need-within-requires-6
 within-requires-6 c κs = search rules
 
 returns : tie.Need-returns
-unfolding spotTests
+unfolding spot_tests
 returns c =
     and_same (and_same (and_same (and_same (and_same c.before.before.before.before.before.within.ensures c.before.before.before.before.within2.ensures) c.before.before.before.within3.ensures) c.before.before.within4.ensures) c.before.within5.ensures) c.within6.ensures
 

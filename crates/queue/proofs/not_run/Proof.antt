@@ -15,7 +15,7 @@ turned-away-requires c κs = search rules
 
 returns : tie.Need-returns
 returns c =
-    record { says = c.turned-away.ensures.0 ∙ rw c.before.refused.ensures; orders = c.turned-away.ensures.1; keeps = refl }
+    record { says = c.turned_away.ensures.0 ∙ rw c.before.refused.ensures; orders = c.turned_away.ensures.1; keeps = refl }
 
 pub not-run-spec : {M : Type 1} → statement M
 not-run-spec = tie.close (tie.spec refused-requires turned-away-requires returns)

@@ -1,5 +1,5 @@
 use native.Mathlib.Omega.{arith}
-use Rattle.model.proofs.DecimalLaws.{dec-most}
+use Rattle.model.proofs.DecimalLaws.{dec_most}
 use borrow.Author.Rules.{rules}
 use Rattle.queue.proofs.put_end.Statement.{statement}
 use Rattle.queue.proofs.put_end.Tie as tie
@@ -19,7 +19,7 @@ enum-known-o-2 c = search rules
 
 put-number-requires : tie.Need-put-number-requires
 put-number-requires c κs =
-    omega (arith, c.before.before.before.before.before.requires, dec-most c.before.before.o2.given.0.0.number)
+    omega (arith, c.before.before.before.before.before.requires, dec_most c.before.before.o2.given.0.0.number)
 
 same_length : tie.Need-same-length
 same_length c = search rules

@@ -1,6 +1,6 @@
 use native.Mathlib.Omega.{arith}
-use Rattle.model.proofs.DecimalLaws.{dec-most}
-use Rattle.text.proofs.Putting.{fields-then}
+use Rattle.model.proofs.DecimalLaws.{dec_most}
+use Rattle.text.proofs.Putting.{fields_then}
 use borrow.Author.Rules.{rules}
 use Rattle.queue.proofs.put_served.Statement.{statement}
 use Rattle.queue.proofs.put_served.Tie as tie
@@ -11,7 +11,7 @@ use Rattle.text.proofs.put_ten.Reads as put-ten-reads
 
 put-number-requires : tie.Need-put-number-requires
 put-number-requires c κs =
-    omega (arith, c.before.before.requires, dec-most c.before.before.args.skipped)
+    omega (arith, c.before.before.requires, dec_most c.before.before.args.skipped)
 
 put-ten-requires : tie.Need-put-ten-requires
 put-ten-requires c κs =
@@ -22,7 +22,7 @@ same_length c = search rules
 
 returns : tie.Need-returns
 returns c =
-    (fields-then _ _ _ _ _ _ _ _ c.before.before.before.before.before.before.put-number.ensures.0 c.before.before.put-ten.ensures.0, omega (arith, c.before.before.before.before.before.before.put-number.ensures.1, c.before.before.put-ten.ensures.1))
+    (fields_then _ _ _ _ _ _ _ _ c.before.before.before.before.before.before.put-number.ensures.0 c.before.before.put-ten.ensures.0, omega (arith, c.before.before.before.before.before.before.put-number.ensures.1, c.before.before.put-ten.ensures.1))
 
 pub put-served-spec : {M : Type 1} → statement M
 put-served-spec = tie.close (tie.spec put-number-requires put-ten-requires same_length returns)

@@ -36,14 +36,14 @@ use denote.Triple.Walked.{says, Stays, stay_ref, stay_none, walk_of, AllGo, Goes
 use Rattle.model.specs.declared.Queue.{Queue}
 use Rattle.model.specs.declared.Waiting.{Waiting}
 use Rattle.model.specs.declared.QueueAnswer.{QueueAnswer}
-use Rattle.model.specs.Contracts.{QueueCall}
+use Rattle.model.specs.Promises.{QueueCall}
 use Rattle.model.proofs.Queue as Q
 use Rattle.model.proofs.Waiting as D
 use Rattle.model.proofs.QueueAnswer as R
 use Rattle.queue.specs.declared.Joined.{Joined}
 use Rattle.queue.proofs.Joined as J
 use Rattle.records.proofs.Walk.{spelled, returned}
-use Rattle.queue.proofs.Lending.{queueVal, Known, Borrow, lends, gives_back}
+use Rattle.queue.proofs.Lending.{queue_val, Known, Borrow, lends, gives_back}
 use Rattle.queue.proofs.join_last as join_last
 use Rattle.queue.proofs.queue_delivery as queuing
 use Rattle.queue.proofs.queue_delivery.Code as code
@@ -62,7 +62,7 @@ rval = LL.val R.the_type R.TheLaws.the_laws
 abbrev parts : Tys
 parts = tcons Q.TheLaws.mir (tcons R.TheLaws.mir tnil)
 
-joined_is : (j : Joined) (u : Val) → Is J.the_row j (u ∷ []) → Is Q.the_row j.queue (queueVal j.queue ∷ []) × Is R.the_row j.answer (rval j.answer ∷ [])
+joined_is : (j : Joined) (u : Val) → Is J.the_row j (u ∷ []) → Is Q.the_row j.queue (queue_val j.queue ∷ []) × Is R.the_row j.answer (rval j.answer ∷ [])
 joined_is j u is = let h = LL.owed J.the_type J.TheLaws.the_laws j (u ∷ []) is in (h.0, h.1.0)
 
 module _ {M : Type 1} {𝓤 : Ura M} (𝓛 : Logic 𝓤) (mem : Memory → SProp 𝓤) (run : Routine → Fun 𝓤) where
@@ -89,9 +89,9 @@ module _ {M : Type 1} {𝓤 : Ura M} (𝓛 : Logic 𝓤) (mem : Memory → SProp
   Post = (walk_of 𝓛 queuing.ended stayed (queuing.clauses 𝓛 mem run)).post bound
 
   abbrev to-join : (JoinLast 𝓛 mem run).Ghost
-  to-join = ((tt, tt, tt, (x.now, (d, tt)), (queueVal x.now ∷ [], (dval d ∷ [], tt))), tt)
+  to-join = ((tt, tt, tt, (x.now, (d, tt)), (queue_val x.now ∷ [], (dval d ∷ [], tt))), tt)
 
-  goes-join : Is Q.the_row x.now (queueVal x.now ∷ []) → ent 𝓤 (sem 𝓛 ftrue) ((JoinLast 𝓛 mem run).pre to-join)
+  goes-join : Is Q.the_row x.now (queue_val x.now ∷ []) → ent 𝓤 (sem 𝓛 ftrue) ((JoinLast 𝓛 mem run).pre to-join)
   goes-join g =
       qed 𝓛 (‵ ftrue ∷ []) ∵ owned ! D.the_row (Is D.the_row) (LL.makes D.the_type D.TheLaws.the_plain 𝓛) d _ gd $ fjoin ! $
       owned ! Q.the_row (Is Q.the_row) (LL.makes Q.the_type Q.TheLaws.the_plain 𝓛) x.now _ g $ fjoin ! $ nothing ! $ join ! $ frame ! $ done !

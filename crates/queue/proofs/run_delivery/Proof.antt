@@ -41,13 +41,13 @@ use denote.Triple.Table.{entered, cited}
 use denote.Triple.Walked.{says, Stays, gave_slice, stay_ref, stay_none, stay_none_slice, walk_of, AllGo, Goes-gave_slice, Goes-none, Goes-none_slice, Goes-ref, ends_at, walked, walk_Meets}
 use Rattle.model.specs.declared.Queue.{Queue}
 use Rattle.model.specs.declared.DeliveryAnswer.{DeliveryAnswer}
-use Rattle.model.specs.Contracts.{RunCall}
+use Rattle.model.specs.Promises.{RunCall}
 use Rattle.model.proofs.Queue as Q
 use Rattle.model.proofs.DeliveryAnswer as R
 use Rattle.queue.specs.declared.Ran.{Ran}
 use Rattle.queue.proofs.Ran as N
 use Rattle.records.proofs.Walk.{spelled, returned}
-use Rattle.queue.proofs.Lending.{queueVal, Known, Borrow, lends, gives_back}
+use Rattle.queue.proofs.Lending.{queue_val, Known, Borrow, lends, gives_back}
 use Rattle.queue.proofs.run_first as run-first
 use Rattle.queue.proofs.run_delivery as running
 use Rattle.queue.proofs.run_delivery.Code as code
@@ -63,7 +63,7 @@ rval = LL.val R.the_type R.TheLaws.the_laws
 abbrev parts : Tys
 parts = tcons Q.TheLaws.mir (tcons R.TheLaws.mir tnil)
 
-ran-is : (n : Ran) (u : Val) → Is N.the_row n (u ∷ []) → Is Q.the_row n.queue (queueVal n.queue ∷ []) × Is R.the_row n.answer (rval n.answer ∷ [])
+ran-is : (n : Ran) (u : Val) → Is N.the_row n (u ∷ []) → Is Q.the_row n.queue (queue_val n.queue ∷ []) × Is R.the_row n.answer (rval n.answer ∷ [])
 ran-is n u is = let h = LL.owed N.the_type N.TheLaws.the_laws n (u ∷ []) is in (h.0, h.1.0)
 
 module _ {M : Type 1} {𝓤 : Ura M} (𝓛 : Logic 𝓤) (mem : Memory → SProp 𝓤) (run : Routine → Fun 𝓤) where
@@ -112,9 +112,9 @@ module _ {M : Type 1} {𝓤 : Ura M} (𝓛 : Logic 𝓤) (mem : Memory → SProp
   Toks = ‵ (flft κ q) ⊛ ‵ (flft κ' q') ⊛ ‵ (flft κ''' q''') ⊛ ‵ ftrue
 
   abbrev to-run : (RunFirst 𝓛 mem run).Ghost
-  to-run = (((κ, (κ', (κ''', tt))), (q, (q', (q''', tt))), tt, (x, (y, (s.now, (t, (z, tt))))), (xv ∷ [], (yv ∷ [], (queueVal s.now ∷ [], (vint w64 t ∷ [], (zv ∷ [], tt)))))), tt)
+  to-run = (((κ, (κ', (κ''', tt))), (q, (q', (q''', tt))), tt, (x, (y, (s.now, (t, (z, tt))))), (xv ∷ [], (yv ∷ [], (queue_val s.now ∷ [], (vint w64 t ∷ [], (zv ∷ [], tt)))))), tt)
 
-  goes-run : Is Q.the_row s.now (queueVal s.now ∷ []) → ent 𝓤 (⋆ 𝓛 (Toks ∷ (‵ Mut ⊛ ‵ Names) ∷ ‵ Buffer ∷ [])) ((RunFirst 𝓛 mem run).pre to-run)
+  goes-run : Is Q.the_row s.now (queue_val s.now ∷ []) → ent 𝓤 (⋆ 𝓛 (Toks ∷ (‵ Mut ⊛ ‵ Names) ∷ ‵ Buffer ∷ [])) ((RunFirst 𝓛 mem run).pre to-run)
   goes-run g =
       qed 𝓛 (Toks ∷ (‵ Mut ⊛ ‵ Names) ∷ ‵ Buffer ∷ []) ∵ nothing ! $ move ! (3 ∷ 0 ∷ []) $ fjoin ! $ owned ! u64 (Is u64) (uint_Makes 𝓛 w64) t _ (refl, gt) $ fjoin ! $
       owned ! Q.the_row (Is Q.the_row) (LL.makes Q.the_type Q.TheLaws.the_plain 𝓛) s.now _ g $ fjoin ! $

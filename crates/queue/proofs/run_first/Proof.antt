@@ -1,6 +1,6 @@
 use mathlib.Core.Path.{sym, ◌∙◌}
 use borrow.Author.Tests.{lt-leb, le-leb, not-true, not-false}
-use Rattle.model.specs.Queue.{firstIn, runRequest}
+use Rattle.model.specs.Queue.{first_in, run_request}
 use Rattle.queue.proofs.Steps.{uncounted, cramped, carried}
 use borrow.Author.Rules.{rules}
 use Rattle.queue.proofs.run_first.Statement.{statement}
@@ -50,7 +50,7 @@ same-length-2 : tie.Need-same-length-2
 same-length-2 c = search rules
 
 returns-3 : tie.Need-returns-3
-unfolding firstIn runRequest
+unfolding first_in run_request
 returns-3 c =
     rw c.moved_up.ensures (carried _ _ _ _ _ _ _ _ (sym c.before.before.before.before.before.before.before.before.before.before.before.within.ensures ∙ not-false _ c.before.before.before.before.before.before.before.before.before.before.if1.false) (le-leb 400 _ c.before.before.before.before.before.before.before.before.before.if2.false) c.before.before.before.before.before.before.delivery.ensures c.before.before.before.write-result.ensures)
 

@@ -15,21 +15,21 @@ use borrow.Author.Tests.{ltb-true, ltb-false}
 use denote.Struct.Laws as LL
 use Rattle.model.specs.declared.Line.{Line}
 use Rattle.model.specs.declared.Lines.{Lines}
-use Rattle.model.proofs.Zipped.{noLine}
+use Rattle.model.proofs.Zipped.{no_line}
 use Rattle.model.proofs.Line as T
 use Rattle.model.proofs.Lines as L
-use Rattle.records.specs.Gathered.{noLines, withLine, Gathered}
-use Rattle.records.proofs.Arrays.{first_of, gathered-at}
+use Rattle.records.specs.Gathered.{no_lines, with_line, Gathered}
+use Rattle.records.proofs.Arrays.{first_of, gathered_at}
 use Rattle.records.proofs.no_lines as no_lines
 use Rattle.records.proofs.more as more
-use Rattle.records.proofs.line_in as line-in
+use Rattle.records.proofs.line_in as line_in
 use Rattle.records.proofs.with_line as with-line
 use Rattle.records.proofs.gather as gather
 use Rattle.records.proofs.gather.Code as code
 use Rattle.records.proofs.Walk.{Ura, full_share, named, w64, ty_bool, Val, vint, vbool, SProp, ent, id⊢, emp, via, fst∗, Lft, Share, Fml, ftrue, fat, flft, Memory, Routine, Out, Env, after_seq, after_block, after_turn, Calls, Wp, at_return, WpFn, Tables, sem, Fun, tables, tables_of, FmC, fm_of, WpFn-mono}
 use Rattle.records.proofs.Walk.{Item, Sq, runs, ‵, raw, ◌⊛◌, ⋆, any_q, at_ret, ◌$◌, ◌∵◌, !, qed, by, move, drop, use1, use2, split, join, rewrite, fsplit, fjoin, suffices, frame, done, whole, sub, look_in, look, store, init, forget, stop, fld, from, load, lit, of_opd, bin, and_then, no_more, assigns, assigns_last, land, returns, enter, alloc1, alloc0, params1, pass1, pass0, free1, free0, exec, first}
 use Rattle.records.proofs.Walk.{yes, owns, Is, Boolean, bool_Lawful, RefT, slice_val, ShrSlice, Room, slice-vals, shr_slice_Tells, shr_slice_copy, plain, only, nothing, owned, Contract, Triple, calls_at, lasts, Vals, on_entry, Meets, triple_of, entered, cited, says, Stays, stay_none_slice, walk_of, Goes-none_slice, ends_at, walked, walk_Meets}
-use Rattle.records.proofs.Walk.{word, lent_as, token, holds, bare, spelled, spelled_is, hands, hands-word, returned, turns-by, loops}
+use Rattle.records.proofs.Walk.{word, lent_as, token, holds, bare, spelled, spelled_is, hands, hands_word, returned, turns_by, loops}
 
 abbrev stayed : Stays (gather.ended).signature.params (gather.ended).kept
 stayed = (stay_none_slice (0 ∷ []) tt (plain (λ _. T.the_row)) yes, tt)
@@ -51,7 +51,7 @@ module _ {M : Type 1} {𝓤 : Ura M} (𝓛 : Logic 𝓤) (mem : Memory → SProp
   More = triple_of 𝓛 more.signature (more.spec 𝓛 mem run)
 
   abbrev LineIn : Contract 𝓤
-  LineIn = triple_of 𝓛 line-in.signature (line-in.spec 𝓛 mem run)
+  LineIn = triple_of 𝓛 line_in.signature (line_in.spec 𝓛 mem run)
 
   abbrev WithLine : Contract 𝓤
   WithLine = triple_of 𝓛 with-line.signature (with-line.spec 𝓛 mem run)
@@ -60,7 +60,7 @@ module _ {M : Type 1} {𝓤 : Ura M} (𝓛 : Logic 𝓤) (mem : Memory → SProp
   record Meet (C : Calls 𝓤 H) : Type 1 where
     starts : Triple 𝓤 (C no_lines.Symbol.name) NoLines
     asks : Triple 𝓤 (C more.Symbol.name) More
-    reads : Triple 𝓤 (C line-in.Symbol.name) LineIn
+    reads : Triple 𝓤 (C line_in.Symbol.name) LineIn
     takes : Triple 𝓤 (C with-line.Symbol.name) WithLine
 
 module _ {M : Type 1} {𝓤 : Ura M} (𝓛 : Logic 𝓤) (mem : Memory → SProp 𝓤) (run : Routine → Fun 𝓤) (κ : Lft) (q : Share) (s : Bor (List Line)) (room : Room T.the_row (length s.now)) where
@@ -89,25 +89,25 @@ module _ {M : Type 1} {𝓤 : Ura M} (𝓛 : Logic 𝓤) (mem : Memory → SProp
   to_none = ((tt, tt, tt, (n, tt), (vint w64 n ∷ [], tt)), tt)
 
   goes_none : ent 𝓤 (sem 𝓛 ftrue) ((NoLines 𝓛 mem run).pre to_none)
-  goes_none = qed 𝓛 (‵ ftrue ∷ []) ∵ hands-word ! n room.0 $ nothing ! $ join ! $ frame ! $ done !
+  goes_none = qed 𝓛 (‵ ftrue ∷ []) ∵ hands_word ! n room.0 $ nothing ! $ join ! $ frame ! $ done !
 
   abbrev to-more : ℕ → (More 𝓛 mem run).Ghost
   to-more i = ((tt, tt, tt, (i, tt), (vint w64 i ∷ [], tt)), tt)
 
   goes-more : (i : ℕ) → i < 2 ^ 64 → ent 𝓤 (sem 𝓛 ftrue) ((More 𝓛 mem run).pre (to-more i))
-  goes-more i g = qed 𝓛 (‵ ftrue ∷ []) ∵ hands-word ! i g $ nothing ! $ join ! $ frame ! $ done !
+  goes-more i g = qed 𝓛 (‵ ftrue ∷ []) ∵ hands_word ! i g $ nothing ! $ join ! $ frame ! $ done !
 
   abbrev to_in : ℕ → (LineIn 𝓛 mem run).Ghost
   to_in i = (((κ, tt), (q, tt), tt, (s, (i, tt)), (sv ∷ [], (vint w64 i ∷ [], tt))), tt)
 
   goes_in : (i : ℕ) → i < 2 ^ 64 → ent 𝓤 (⋆ 𝓛 (token κ q ∷ ‵ Own ∷ [])) ((LineIn 𝓛 mem run).pre (to_in i))
-  goes_in i g = qed 𝓛 (token κ q ∷ ‵ Own ∷ []) ∵ nothing ! $ hands-word ! i g $ move ! (2 ∷ 0 ∷ []) $ fjoin ! $ move ! (1 ∷ 0 ∷ []) $ join ! $ frame ! $ done !
+  goes_in i g = qed 𝓛 (token κ q ∷ ‵ Own ∷ []) ∵ nothing ! $ hands_word ! i g $ move ! (2 ∷ 0 ∷ []) $ fjoin ! $ move ! (1 ∷ 0 ∷ []) $ join ! $ frame ! $ done !
 
   abbrev to-with : ℕ → Line → Val → (WithLine 𝓛 mem run).Ghost
   to-with i x u = ((tt, tt, tt, (to i, (i, (x, tt))), (lval (to i) ∷ [], (vint w64 i ∷ [], (u ∷ [], tt)))), tt)
 
   goes_with : (i : ℕ) (x : Line) (u : Val) → i < 15 → i < 2 ^ 64 → Is T.the_row x (u ∷ []) → Has (to i) → ent 𝓤 (sem 𝓛 ftrue) ((WithLine 𝓛 mem run).pre (to-with i x u))
-  goes_with i x u h gi is g = qed 𝓛 (‵ ftrue ∷ []) ∵ says ! h $ hands ! T.the_type T.TheLaws.the_plain x is $ hands-word ! i gi $ hands ! L.the_type L.TheLaws.the_plain (to i) g $ nothing ! $ frame ! $ done !
+  goes_with i x u h gi is g = qed 𝓛 (‵ ftrue ∷ []) ∵ says ! h $ hands ! T.the_type T.TheLaws.the_plain x is $ hands_word ! i gi $ hands ! L.the_type L.TheLaws.the_plain (to i) g $ nothing ! $ frame ! $ done !
 
   exits : (r : Lines) → Has r → Gathered s.now r → ent 𝓤 (⋆ 𝓛 (token κ q ∷ ‵ Own ∷ [])) (Post (lval r))
   exits r g all =
@@ -141,26 +141,26 @@ module _ {M : Type 1} {𝓤 : Ura M} (𝓛 : Logic 𝓤) (mem : Memory → SProp
           returned ! tt (‵ ftrue) Boolean (lasts more.ended tt (i, tt)) (λ t z. t ≡ ltb i 15) v (id⊢ 𝓤 _) (λ t z is-t is-v. drop ! $ drop ! $
           land ! (from ! (stop !)) (init ! 2 refl ((bool_Lawful 𝓛).typed t (v ∷ []) is-v).0) $ rewrite ! 2 (λ (y : Val). ‵ (fat full_share ty_bool l₆ 0 y)) (ap only is-v ∙ ap vbool is-t) refl $
           -- [the token; Own; _6; …; _0; …]
-          turns-by ! (ltb i 15) (load ! (from ! (stop !)) (look ! 2 refl)) (λ p.
+          turns_by ! (ltb i 15) (load ! (from ! (stop !)) (look ! 2 refl)) (λ p.
           let on : i < 15 = ltb-true i 15 p in let next : i + 1 < 2 ^ 64 = omega arith in
           move ! (1 ∷ []) $ use1 𝓛 (‵ Own ⊛ ‵ Own) ((shr_slice_copy 𝓛 (named 0) κ T.the_row).twice s (sv ∷ [])) $ split ! $ move ! (2 ∷ 0 ∷ []) $ use2 𝓛 (raw ((LineIn 𝓛 mem run).pre (to_in i))) (goes_in i fits) $
           calls_at ! fm (LineIn 𝓛 mem run) meet.reads (to_in i) (and_then ! (load ! (from ! (stop !)) (look ! 12 refl)) (and_then ! (load ! (from ! (stop !)) (look ! 8 refl)) (no_more !))) (λ u.
-          returned ! tt (token κ q) T.the_row (lasts line-in.ended (κ, tt) (s, (i, tt))) (λ x z. x ≡ get_or s.now i noLine) u (id⊢ 𝓤 _) (λ x z is_x is. move ! (1 ∷ []) $ drop ! $
+          returned ! tt (token κ q) T.the_row (lasts line_in.ended (κ, tt) (s, (i, tt))) (λ x z. x ≡ get_or s.now i no_line) u (id⊢ 𝓤 _) (λ x z is_x is. move ! (1 ∷ []) $ drop ! $
           land ! (from ! (stop !)) (init ! 6 refl ((LL.lawful T.the_type T.TheLaws.the_laws 𝓛).typed x _ is).0) $
           nothing ! $ use1 𝓛 (raw ((WithLine 𝓛 mem run).pre (to-with i x u))) (goes_with i x u on fits is g) $
           calls_at ! fm (WithLine 𝓛 mem run) meet.takes (to-with i x u) (and_then ! (load ! (from ! (stop !)) (look ! 11 refl)) (and_then ! (load ! (from ! (stop !)) (look ! 9 refl)) (and_then ! (load ! (from ! (stop !)) (look ! 7 refl)) (no_more !)))) (λ w.
-          returned ! tt (‵ ftrue) L.the_row (lasts with-line.ended tt (to i, (i, (x, tt)))) (λ r z. r ≡ withLine (to i) i x) w (id⊢ 𝓤 _) (λ r z is-r is'. drop ! $ drop ! $
+          returned ! tt (‵ ftrue) L.the_row (lasts with-line.ended tt (to i, (i, (x, tt)))) (λ r z. r ≡ with_line (to i) i x) w (id⊢ 𝓤 _) (λ r z is-r is'. drop ! $ drop ! $
           land ! (from ! (stop !)) (store ! 10 refl ((LL.lawful L.the_type L.TheLaws.the_laws 𝓛).typed r _ is').0) $
           assigns_last ! (bin ! (load ! (from ! (stop !)) (look ! 8 refl)) (lit ! tt) (record { fits = next })) (from ! (stop !)) (store ! 8 refl (tt, record { fits = next })) $
           forget ! 2 refl $ forget ! 6 refl $ rewrite ! 8 (λ (j : ℕ). ‵ (fat full_share word l₃ 0 (vint w64 j))) (add-one i) refl $
-          let is-next : r ≡ to (suc i) = is-r ∙ ap (withLine (to i) i) is_x in
+          let is-next : r ≡ to (suc i) = is-r ∙ ap (with_line (to i) i) is_x in
           rewrite ! 10 (λ (y : Val). ‵ (fat full_share L.TheLaws.mir l₂ 0 y)) (spelled L.the_type L.TheLaws.the_laws r w is' ∙ ap lval is-next) refl $
           by ! (k on (subst Has is-next (spelled_is L.the_type L.TheLaws.the_laws r w is')))))))) (λ p.
           exec ! 𝓣.C 𝓣.Λ En code.Mir.t-5 (at_ret En Post) $
           assigns ! (of_opd ! (load ! (from ! (stop !)) (look ! 10 refl))) (from ! (stop !)) (init ! 14 refl ((LL.lawful L.the_type L.TheLaws.the_laws 𝓛).typed (to i) (lval (to i) ∷ []) g).0) $
           returns ! (look ! 14 refl) $ forget ! 2 refl $ forget ! 4 refl $ forget ! 8 refl $ forget ! 10 refl $ forget ! 12 refl $ forget ! 14 refl $
           move ! (14 ∷ 15 ∷ []) $ free1 ! $ move ! (12 ∷ 13 ∷ []) $ free1 ! $ move ! (10 ∷ 11 ∷ []) $ free1 ! $ move ! (8 ∷ 9 ∷ []) $ free1 ! $ move ! (6 ∷ 7 ∷ []) $ free1 ! $ move ! (4 ∷ 5 ∷ []) $ free1 ! $ move ! (2 ∷ 3 ∷ []) $ free1 ! $ free0 ! $
-          by ! (exits (to i) g (gathered-at s.now i h (ltb-false i 15 p))))))
+          by ! (exits (to i) g (gathered_at s.now i h (ltb-false i 15 p))))))
 
       -- the loop and the rest of the body
       enters : Has (to 0) → Sq 𝓛 (At 0) (runs 𝓣.C 𝓣.Λ En code.Mir.t-4 (at_ret En Post))
@@ -174,7 +174,7 @@ module _ {M : Type 1} {𝓤 : Ura M} (𝓛 : Logic 𝓤) (mem : Memory → SProp
         assigns ! (of_opd ! (load ! (from ! (fld ! refl (stop !))) (look_in ! 10 (sub ! 1 refl (whole !))))) (from ! (stop !)) (init ! 2 refl (tt, record { fits = room.0 })) $
         nothing ! $ use1 𝓛 (raw ((NoLines 𝓛 mem run).pre to_none)) goes_none $
         calls_at ! fm (NoLines 𝓛 mem run) meet.starts to_none (and_then ! (load ! (from ! (stop !)) (look ! 3 refl)) (no_more !)) (λ w.
-        returned ! tt (‵ ftrue) L.the_row (lasts no_lines.ended tt (n, tt)) (λ r z. r ≡ noLines n) w (id⊢ 𝓤 _) (λ r z is-r is. drop ! $ drop ! $
+        returned ! tt (‵ ftrue) L.the_row (lasts no_lines.ended tt (n, tt)) (λ r z. r ≡ no_lines n) w (id⊢ 𝓤 _) (λ r z is-r is. drop ! $ drop ! $
         land ! (from ! (stop !)) (init ! 8 refl ((LL.lawful L.the_type L.TheLaws.the_laws 𝓛).typed r _ is).0) $
         rewrite ! 8 (λ (y : Val). ‵ (fat full_share L.TheLaws.mir l₂ 0 y)) (spelled L.the_type L.TheLaws.the_laws r w is ∙ ap lval is-r) refl $
         assigns ! (of_opd ! (lit ! tt)) (from ! (stop !)) (init ! 6 refl (tt, record { fits = lit< tt })) $
@@ -198,6 +198,6 @@ gather-spec 𝓤 𝓛 𝓜 𝓡 =
     (gather-meets 𝓛 𝓜.mem 𝓡.run (tables_of 𝓤 𝓛.H 𝓜 (tables 𝓤 𝓛.H 𝓜 𝓡 code.env)) (record {
       starts = cited 𝓤 𝓛.H (NoLines 𝓛 𝓜.mem 𝓡.run) 𝓜 𝓡 code.env no_lines.Symbol.name no_lines.Symbol.routine code.calls-records::no-lines (no_lines.Met.met 𝓤 𝓛 𝓜 𝓡);
       asks = cited 𝓤 𝓛.H (More 𝓛 𝓜.mem 𝓡.run) 𝓜 𝓡 code.env more.Symbol.name more.Symbol.routine code.calls-records::more (more.Met.met 𝓤 𝓛 𝓜 𝓡);
-      reads = cited 𝓤 𝓛.H (LineIn 𝓛 𝓜.mem 𝓡.run) 𝓜 𝓡 code.env line-in.Symbol.name line-in.Symbol.routine code.calls-records::line-in (line-in.Met.met 𝓤 𝓛 𝓜 𝓡);
+      reads = cited 𝓤 𝓛.H (LineIn 𝓛 𝓜.mem 𝓡.run) 𝓜 𝓡 code.env line_in.Symbol.name line_in.Symbol.routine code.calls-records::line-in (line_in.Met.met 𝓤 𝓛 𝓜 𝓡);
       takes = cited 𝓤 𝓛.H (WithLine 𝓛 𝓜.mem 𝓡.run) 𝓜 𝓡 code.env with-line.Symbol.name with-line.Symbol.routine code.calls-records::with-line (with-line.Met.met 𝓤 𝓛 𝓜 𝓡);
     }))

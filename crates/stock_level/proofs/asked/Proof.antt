@@ -1,5 +1,5 @@
-use Rattle.model.proofs.TestLaws.{turned-away, passed_on}
-use Rattle.model.specs.StockLevel.{levelAsked}
+use Rattle.model.proofs.TestLaws.{turned_away, passed_on}
+use Rattle.model.specs.StockLevel.{level_asked}
 use Prim.Native.Nat.{◌-◌}
 use borrow.Author.Rules.{rules}
 use Rattle.stock_level.proofs.asked.Statement.{statement}
@@ -16,9 +16,9 @@ refused-requires : tie.Need-refused-requires
 refused-requires c κs = search rules
 
 returns : tie.Need-returns
-unfolding levelAsked
+unfolding level_asked
 returns c =
-    turned-away 4 _ c.before.before.within.ensures c.before.if1.true c.refused.ensures
+    turned_away 4 _ c.before.before.within.ensures c.before.if1.true c.refused.ensures
 
 within-requires-2 : tie.Need-within-requires-2
 within-requires-2 c κs = search rules
@@ -27,9 +27,9 @@ refused-requires-2 : tie.Need-refused-requires-2
 refused-requires-2 c κs = search rules
 
 returns-2 : tie.Need-returns-2
-unfolding levelAsked
+unfolding level_asked
 returns-2 c =
-    passed_on 4 _ c.before.before.before.before.within.ensures c.before.before.before.if1.false (turned-away 5 _ c.before.before.within2.ensures c.before.if2.true c.refused2.ensures)
+    passed_on 4 _ c.before.before.before.before.within.ensures c.before.before.before.if1.false (turned_away 5 _ c.before.before.within2.ensures c.before.if2.true c.refused2.ensures)
 
 within-requires-3 : tie.Need-within-requires-3
 within-requires-3 c κs = search rules
@@ -38,15 +38,15 @@ refused-requires-3 : tie.Need-refused-requires-3
 refused-requires-3 c κs = search rules
 
 returns-3 : tie.Need-returns-3
-unfolding levelAsked
+unfolding level_asked
 returns-3 c =
-    passed_on 4 _ c.before.before.before.before.before.before.within.ensures c.before.before.before.before.before.if1.false (passed_on 5 _ c.before.before.before.before.within2.ensures c.before.before.before.if2.false (turned-away 8 _ c.before.before.within3.ensures c.before.if3.true c.refused3.ensures))
+    passed_on 4 _ c.before.before.before.before.before.before.within.ensures c.before.before.before.before.before.if1.false (passed_on 5 _ c.before.before.before.before.within2.ensures c.before.before.before.if2.false (turned_away 8 _ c.before.before.within3.ensures c.before.if3.true c.refused3.ensures))
 
 refused-requires-4 : tie.Need-refused-requires-4
 refused-requires-4 c κs = search rules
 
 returns-4 : tie.Need-returns-4
-unfolding levelAsked
+unfolding level_asked
 returns-4 c =
     passed_on 4 _ c.before.before.before.before.before.before.within.ensures c.before.before.before.before.before.if1.false (passed_on 5 _ c.before.before.before.before.within2.ensures c.before.before.before.if2.false (passed_on 8 _ c.before.before.within3.ensures c.before.if3.false c.refused4.ensures))
 

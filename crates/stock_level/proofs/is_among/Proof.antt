@@ -1,4 +1,4 @@
-use Rattle.stock_level.proofs.Notes.{among-here, among_next, among-end}
+use Rattle.stock_level.proofs.Notes.{among_here, among_next, among_end}
 use Rattle.stock_level.specs.Notes.{member}
 use lib.ListN.{take, drop}
 use Prim.Native.Nat.{◌≤◌, ◌-◌}
@@ -27,7 +27,7 @@ shared-slice-read-if1 c = search rules
 
 returns : tie.Need-returns invariant-loop decreases-loop
 returns c =
-    among-here _ _ _ _ c.before.before.loop-test.true c.before.before.before.before.requires c.if1.true c.before.before.before.loop.invariant.1
+    among_here _ _ _ _ c.before.before.loop-test.true c.before.before.before.before.requires c.if1.true c.before.before.before.loop.invariant.1
 
 add-i : tie.Need-overflow-add-i invariant-loop decreases-loop
 add-i c = search rules
@@ -41,7 +41,7 @@ loop-again c =
 
 returns-2 : tie.Need-returns-2 invariant-loop decreases-loop
 returns-2 c =
-    among-end _ _ _ _ c.loop-test.false c.before.before.requires c.before.loop.invariant.1
+    among_end _ _ _ _ c.loop-test.false c.before.before.requires c.before.loop.invariant.1
 
 pub is-among-spec : {M : Type 1} → statement M
 is-among-spec =

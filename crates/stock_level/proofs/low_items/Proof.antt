@@ -1,4 +1,4 @@
-use Rattle.stock_level.proofs.Notes.{first-in, few, reads, count-is}
+use Rattle.stock_level.proofs.Notes.{first_in_lem, few, reads, count_is}
 use Prim.Native.Nat.{◌-◌}
 use native.Mathlib.Omega.{arith}
 use borrow.Author.Rules.{rules}
@@ -20,12 +20,12 @@ window-first-requires c κs = search rules
 
 sub-count : tie.Need-overflow-sub-count
 sub-count c =
-    omega (arith, first-in c.before.before.args.d c.before.before.args.b.now c.before.before.args.q (c.before.before.requires) c.before.next-order.result c.window-first.result c.before.next-order.ensures c.window-first.ensures)
+    omega (arith, first_in_lem c.before.before.args.d c.before.before.args.b.now c.before.before.args.q (c.before.before.requires) c.before.next-order.result c.window-first.result c.before.next-order.ensures c.window-first.ensures)
 
 orders-run-requires : tie.Need-orders-run-requires
 orders-run-requires c κs =
-    let f = first-in c.before.before.args.d c.before.before.args.b.now c.before.before.args.q (c.before.before.requires) c.before.next-order.result c.window-first.result c.before.next-order.ensures c.window-first.ensures in
-    (c.before.before.requires.booked.dimsd, (c.before.before.requires.asked.w, (c.before.before.requires.asked.k, (record { lo = f.low; hi = f.high }, omega (arith, f, c.before.next-order.ensures, c.before.before.requires.used.district.next-high)))))
+    let f = first_in_lem c.before.before.args.d c.before.before.args.b.now c.before.before.args.q (c.before.before.requires) c.before.next-order.result c.window-first.result c.before.next-order.ensures c.window-first.ensures in
+    (c.before.before.requires.booked.dimsd, (c.before.before.requires.asked.w, (c.before.before.requires.asked.k, (record { lo = f.low; hi = f.high }, omega (arith, f, c.before.next-order.ensures, c.before.before.requires.used.district.next_high)))))
 
 stock-at-requires : tie.Need-stock-at-requires
 stock-at-requires c κs = search rules
@@ -40,7 +40,7 @@ note-run-requires c κs =
 returns : tie.Need-returns
 returns c =
     let f = few c.before.before.before.before.before.before.before.args.d c.before.before.before.before.before.before.before.args.b.now c.before.before.before.before.before.before.before.args.q (c.before.before.before.before.before.before.before.requires) c.before.before.before.before.before.before.next-order.result c.before.before.before.before.before.window-first.result c.before.before.before.before.before.before.next-order.ensures c.before.before.before.before.before.window-first.ensures in
-    count-is c.before.before.before.before.before.before.before.args.d c.before.before.before.before.before.before.before.args.b.now c.before.before.before.before.before.before.before.args.q (c.before.before.before.before.before.before.before.requires) c.before.before.before.before.before.before.next-order.result c.before.before.before.before.before.window-first.result c.before.before.before.before.before.before.next-order.ensures c.before.before.before.before.before.window-first.ensures c.before.before.before.before.orders-run.ensures c.before.before.before.stock-at.result c.before.before.before.stock-at.ensures.0 c.before.note-run.new.1.1.1.0 c.before.note-run.result (omega (arith, c.before.note-run.ensures.0, c.before.before.before.before.orders-run.ensures.count, f)) c.before.note-run.ensures.1
+    count_is c.before.before.before.before.before.before.before.args.d c.before.before.before.before.before.before.before.args.b.now c.before.before.before.before.before.before.before.args.q (c.before.before.before.before.before.before.before.requires) c.before.before.before.before.before.before.next-order.result c.before.before.before.before.before.window-first.result c.before.before.before.before.before.before.next-order.ensures c.before.before.before.before.before.window-first.ensures c.before.before.before.before.orders-run.ensures c.before.before.before.stock-at.result c.before.before.before.stock-at.ensures.0 c.before.note-run.new.1.1.1.0 c.before.note-run.result (omega (arith, c.before.note-run.ensures.0, c.before.before.before.before.orders-run.ensures.count, f)) c.before.note-run.ensures.1
 
 pub low-items-spec : {M : Type 1} → statement M
 low-items-spec =

@@ -1,4 +1,4 @@
-use Rattle.stock_level.specs.Notes.{lowAt}
+use Rattle.stock_level.specs.Notes.{low_at}
 use borrow.Author.Tests.{lt-ltb, le-ltb}
 use lib.Seq.{take-suc-set}
 use native.Mathlib.Numerals.{add-one}
@@ -30,7 +30,7 @@ same_length : tie.Need-same-length
 same_length c = search rules
 
 returns : tie.Need-returns
-unfolding lowAt
+unfolding low_at
 returns c =
     (search rules, rw (← c.before.before.before.before.get.ensures, lt-ltb _ _ c.before.before.before.if1.true, ← c.before.is_among.ensures, c.if2.true))
 
@@ -47,12 +47,12 @@ same-length-2 : tie.Need-same-length-2
 same-length-2 c = search rules
 
 returns-2 : tie.Need-returns-2
-unfolding lowAt
+unfolding low_at
 returns-2 c =
     (search rules, rw (← c.before.before.before.before.get.ensures, lt-ltb _ _ c.before.before.before.if1.true, ← c.before.is_among.ensures, c.if2.false, add-one) (take-suc-set c.before.before.before.before.before.before.args.list.now c.before.before.before.before.before.before.args.n c.before.before.before.before.before.before.args.x (search rules)))
 
 returns-3 : tie.Need-returns-3
-unfolding lowAt
+unfolding low_at
 returns-3 c =
     (search rules, rw (← c.before.get.ensures, le-ltb _ _ c.if1.false))
 

@@ -1,5 +1,5 @@
-use Rattle.stock_level.proofs.Notes.{lines-cell, item-cell, line-turn, lines-all}
-use Rattle.stock_level.specs.Notes.{noteAll, lowAt, itemIn}
+use Rattle.stock_level.proofs.Notes.{lines-cell, item-cell, line_turn, lines-all}
+use Rattle.stock_level.specs.Notes.{note_all, low_at, item_in}
 use Rattle.model.specs.Claim.{R}
 use Rattle.model.specs.Lists.{up_to}
 use Rattle.model.specs.Store.{from}
@@ -18,7 +18,7 @@ use Rattle.cells.proofs.get.Reads as get-reads
 use Rattle.stock_level.proofs.note_item.Reads as note-item-reads
 
 abbrev invariant-loop : tie.invariant-loop
-invariant-loop b stock threshold list₀ n p lines k₀ j₀ list k j = (j ≤ lines) × ((lines ≡ nat (from b p 3)) × ((k ≤ n + j) × ((length list ≡ length list₀) × (take k list ≡ noteAll (lowAt b stock threshold) (take n list₀) (up_to j (itemIn b p))))))
+invariant-loop b stock threshold list₀ n p lines k₀ j₀ list k j = (j ≤ lines) × ((lines ≡ nat (from b p 3)) × ((k ≤ n + j) × ((length list ≡ length list₀) × (take k list ≡ note_all (low_at b stock threshold) (take n list₀) (up_to j (item_in b p))))))
 
 abbrev decreases-loop : tie.decreases-loop
 decreases-loop b stock threshold list₀ n p lines k₀ j₀ list k j = lines - j
@@ -64,7 +64,7 @@ loop-less c = search rules
 
 loop-again : tie.Need-loop-preserved invariant-loop decreases-loop
 loop-again c =
-    (search rules, (search rules, (search rules, (search rules, line-turn c.before.before.before.before.before.before.before.before.before.args.b.now c.before.before.before.before.before.before.before.before.before.args.stock c.before.before.before.before.before.before.before.before.before.args.threshold (take c.before.before.before.before.before.before.before.before.before.args.n c.before.before.before.before.before.before.before.before.before.args.list.now) c.before.before.before.before.before.before.before.before.before.args.p c.before.before.before.before.before.before.loop.j (take c.before.before.before.before.before.before.loop.k c.before.before.before.before.before.before.loop.list) c.before.before.before.before.before.before.loop.invariant.1.1.1.1 c.before.before.before.before.get2.ensures c.before.before.note-item.ensures.1))))
+    (search rules, (search rules, (search rules, (search rules, line_turn c.before.before.before.before.before.before.before.before.before.args.b.now c.before.before.before.before.before.before.before.before.before.args.stock c.before.before.before.before.before.before.before.before.before.args.threshold (take c.before.before.before.before.before.before.before.before.before.args.n c.before.before.before.before.before.before.before.before.before.args.list.now) c.before.before.before.before.before.before.before.before.before.args.p c.before.before.before.before.before.before.loop.j (take c.before.before.before.before.before.before.loop.k c.before.before.before.before.before.before.loop.list) c.before.before.before.before.before.before.loop.invariant.1.1.1.1 c.before.before.before.before.get2.ensures c.before.before.note-item.ensures.1))))
 
 same_length : tie.Need-same-length invariant-loop decreases-loop
 same_length c = search rules
@@ -72,7 +72,7 @@ same_length c = search rules
 returns : tie.Need-returns invariant-loop decreases-loop
 returns c =
     let e : c.before.loop.j ≡ nat (from c.before.before.before.before.args.b.now c.before.before.before.before.args.p 3) = le_antisymm c.before.loop.invariant.0 c.loop-test.false ∙ c.before.loop.invariant.1.0 in
-    (omega (arith, c.before.loop.invariant, c.before.before.before.before.requires.0.lines, e), c.before.loop.invariant.1.1.1.1 ∙ ap (noteAll (lowAt c.before.before.before.before.args.b.now c.before.before.before.before.args.stock c.before.before.before.before.args.threshold) (take c.before.before.before.before.args.n c.before.before.before.before.args.list.now)) (lines-all c.before.before.before.before.args.b.now c.before.before.before.before.args.p c.before.loop.j e))
+    (omega (arith, c.before.loop.invariant, c.before.before.before.before.requires.0.lines, e), c.before.loop.invariant.1.1.1.1 ∙ ap (note_all (low_at c.before.before.before.before.args.b.now c.before.before.before.before.args.stock c.before.before.before.before.args.threshold) (take c.before.before.before.before.args.n c.before.before.before.before.args.list.now)) (lines-all c.before.before.before.before.args.b.now c.before.before.before.before.args.p c.before.loop.j e))
 
 pub note-order-spec : {M : Type 1} → statement M
 note-order-spec =

@@ -1,8 +1,8 @@
 use mathlib.Core.List.{[]}
 use lib.ListN.{length, take}
 use native.Mathlib.Nat.{le_antisymm}
-use Rattle.stock_level.specs.Notes.{noteAll, lowAt, items_in}
-use Rattle.stock_level.proofs.Notes.{run-turn}
+use Rattle.stock_level.specs.Notes.{note_all, low_at, items_in}
+use Rattle.stock_level.proofs.Notes.{run_turn}
 use Prim.Native.Nat.{◌≤◌, ◌*◌, ◌-◌}
 use mathlib.Core.Path.{◌≡◌, refl}
 use native.Mathlib.Omega.{arith}
@@ -15,7 +15,7 @@ use Rattle.layout.proofs.order_in.Reads as order-in-reads
 use Rattle.stock_level.proofs.note_order.Reads as note-order-reads
 
 abbrev invariant-loop : tie.invariant-loop
-invariant-loop b stock threshold list₀ run n k₀ i₀ list k i = (i ≤ n) × ((k ≤ 15 * i) × ((length list ≡ length list₀) × (take k list ≡ noteAll (lowAt b stock threshold) [] (items_in b run i))))
+invariant-loop b stock threshold list₀ run n k₀ i₀ list k i = (i ≤ n) × ((k ≤ 15 * i) × ((length list ≡ length list₀) × (take k list ≡ note_all (low_at b stock threshold) [] (items_in b run i))))
 
 abbrev decreases-loop : tie.decreases-loop
 decreases-loop b stock threshold list₀ run n k₀ i₀ list k i = n - i
@@ -31,7 +31,7 @@ order-in-requires c κs =
 
 note-order-requires : tie.Need-note-order-requires invariant-loop decreases-loop
 note-order-requires c κs =
-    (rw c.before.order-in.ensures (c.before.before.before.before.before.requires.0 c.before.before.before.loop.i c.before.before.loop-test.true), omega (arith, c.before.before.before.before.before.requires.1, c.before.before.before.loop.invariant, c.before.before.loop-test.true))
+    (rw c.before.order_in.ensures (c.before.before.before.before.before.requires.0 c.before.before.before.loop.i c.before.before.loop-test.true), omega (arith, c.before.before.before.before.before.requires.1, c.before.before.before.loop.invariant, c.before.before.loop-test.true))
 
 add-i : tie.Need-overflow-add-i invariant-loop decreases-loop
 add-i c = search rules
@@ -41,7 +41,7 @@ loop-less c = search rules
 
 loop-again : tie.Need-loop-preserved invariant-loop decreases-loop
 loop-again c =
-    (search rules, (search rules, (search rules, run-turn c.before.before.before.before.before.before.before.before.args.b.now c.before.before.before.before.before.before.before.before.args.stock c.before.before.before.before.before.before.before.before.args.threshold c.before.before.before.before.before.before.before.before.args.run c.before.before.before.before.before.before.loop.i (take c.before.before.before.before.before.before.loop.k c.before.before.before.before.before.before.loop.list) c.before.before.before.before.before.before.loop.invariant.1.1.1 c.before.before.before.before.order-in.ensures c.before.before.note-order.ensures.1)))
+    (search rules, (search rules, (search rules, run_turn c.before.before.before.before.before.before.before.before.args.b.now c.before.before.before.before.before.before.before.before.args.stock c.before.before.before.before.before.before.before.before.args.threshold c.before.before.before.before.before.before.before.before.args.run c.before.before.before.before.before.before.loop.i (take c.before.before.before.before.before.before.loop.k c.before.before.before.before.before.before.loop.list) c.before.before.before.before.before.before.loop.invariant.1.1.1 c.before.before.before.before.order_in.ensures c.before.before.note-order.ensures.1)))
 
 same_length : tie.Need-same-length invariant-loop decreases-loop
 same_length c = search rules

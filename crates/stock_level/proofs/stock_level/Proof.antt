@@ -1,10 +1,10 @@
 use lib.ListN.{length}
 use Rattle.rows.proofs.RowTests.{shaped-booked}
-use Rattle.model.specs.Head.{dims, headOk}
-use Rattle.model.specs.StockLevel.{levelAsked, levelUsed, stockLevelFault}
+use Rattle.model.specs.Head.{dims, head_ok}
+use Rattle.model.specs.StockLevel.{level_asked, level_used, stock_level_fault}
 use Rattle.model.proofs.TestLaws.{staged-head}
-use Rattle.layout.proofs.Heads.{head_read, head-damaged}
-use Rattle.stock_level.proofs.Stages.{turned-call, whole, ready, counted-call}
+use Rattle.layout.proofs.Heads.{head_read, head_damaged}
+use Rattle.stock_level.proofs.Stages.{turned_call, whole, ready, counted-call}
 use Prim.Native.Nat.{◌-◌}
 use mathlib.Core.Path.{◌≡◌, refl, ap, ◌∙◌}
 use native.Mathlib.Omega.{arith}
@@ -35,11 +35,11 @@ turned-away-requires : tie.Need-turned-away-requires
 turned-away-requires c κs = search rules
 
 returns : tie.Need-returns
-unfolding stockLevelFault
+unfolding stock_level_fault
 returns c =
     let b = c.before.before.before.before.before.before.args.b.now in let n = length c.before.before.before.before.before.before.args.names.now in let q = c.before.before.before.before.before.before.args.q in
     let z : c.before.refused.result.number ≡ 2 = ap (λ r. r.number) c.before.refused.ensures in
-    turned-call b c.before.before.before.before.before.before.args.names.now q (c.before.refused.ensures ∙ staged-head (headOk b n) (levelAsked (dims b) q) (levelUsed (dims b) b q) (head-damaged b n c.before.before.before.before.head_of.ensures c.before.before.enum_told.given.1)) (λ y. omega (arith, z, y)) c.turned-away.ensures
+    turned_call b c.before.before.before.before.before.before.args.names.now q (c.before.refused.ensures ∙ staged-head (head_ok b n) (level_asked (dims b) q) (level_used (dims b) b q) (head_damaged b n c.before.before.before.before.head_of.ensures c.before.before.enum_told.given.1)) (λ y. omega (arith, z, y)) c.turned_away.ensures
 
 fault-in-requires : tie.Need-fault-in-requires
 fault-in-requires c κs =
@@ -58,7 +58,7 @@ turned-away-requires-2 c κs = search rules
 
 returns-3 : tie.Need-returns-3
 returns-3 c =
-    turned-call c.before.before.before.before.before.before.before.before.before.args.b.now c.before.before.before.before.before.before.before.before.before.args.names.now c.before.before.before.before.before.before.before.before.before.args.q (whole c.before.before.before.before.before.before.before.before.before.args.b.now c.before.before.before.before.before.before.before.before.before.args.names.now c.before.before.before.before.before.before.before.before.before.args.q (head_read c.before.before.before.before.before.before.before.before.before.args.b.now (length c.before.before.before.before.before.before.before.before.before.args.names.now) c.before.before.before.before.before.before.before.head_of.ensures c.before.before.before.before.before.d.given.1) c.before.before.before.fault-in.ensures) c.before.if1.false c.turned-away2.ensures
+    turned_call c.before.before.before.before.before.before.before.before.before.args.b.now c.before.before.before.before.before.before.before.before.before.args.names.now c.before.before.before.before.before.before.before.before.before.args.q (whole c.before.before.before.before.before.before.before.before.before.args.b.now c.before.before.before.before.before.before.before.before.before.args.names.now c.before.before.before.before.before.before.before.before.before.args.q (head_read c.before.before.before.before.before.before.before.before.before.args.b.now (length c.before.before.before.before.before.before.before.before.before.args.names.now) c.before.before.before.before.before.before.before.head_of.ensures c.before.before.before.before.before.d.given.1) c.before.before.before.fault-in.ensures) c.before.if1.false c.turned-away2.ensures
 
 pub stock-level-spec : {M : Type 1} → statement M
 stock-level-spec =

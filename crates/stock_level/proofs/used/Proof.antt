@@ -1,6 +1,6 @@
 use borrow.Author.Tests.{not-false}
-use Rattle.model.proofs.TestLaws.{turned-away, passed_on}
-use Rattle.model.specs.StockLevel.{levelUsed}
+use Rattle.model.proofs.TestLaws.{turned_away, passed_on}
+use Rattle.model.specs.StockLevel.{level_used}
 use Prim.Native.Nat.{◌-◌}
 use mathlib.Core.Path.{sym, ◌∙◌}
 use borrow.Author.Rules.{rules}
@@ -20,9 +20,9 @@ refused-requires : tie.Need-refused-requires
 refused-requires c κs = search rules
 
 returns : tie.Need-returns
-unfolding levelUsed
+unfolding level_used
 returns c =
-    turned-away 9 _ c.before.before.district-used.ensures c.before.if1.true c.refused.ensures
+    turned_away 9 _ c.before.before.district-used.ensures c.before.if1.true c.refused.ensures
 
 window-used-requires : tie.Need-window-used-requires
 window-used-requires c κs =
@@ -32,9 +32,9 @@ refused-requires-2 : tie.Need-refused-requires-2
 refused-requires-2 c κs = search rules
 
 returns-2 : tie.Need-returns-2
-unfolding levelUsed
+unfolding level_used
 returns-2 c =
-    passed_on 9 _ c.before.before.before.before.district-used.ensures c.before.before.before.if1.false (turned-away 9 _ c.before.before.window-used.ensures c.before.if2.true c.refused2.ensures)
+    passed_on 9 _ c.before.before.before.before.district-used.ensures c.before.before.before.if1.false (turned_away 9 _ c.before.before.window-used.ensures c.before.if2.true c.refused2.ensures)
 
 stocks-used-requires : tie.Need-stocks-used-requires
 stocks-used-requires c κs = search rules
@@ -43,15 +43,15 @@ refused-requires-3 : tie.Need-refused-requires-3
 refused-requires-3 c κs = search rules
 
 returns-3 : tie.Need-returns-3
-unfolding levelUsed
+unfolding level_used
 returns-3 c =
-    passed_on 9 _ c.before.before.before.before.before.before.district-used.ensures c.before.before.before.before.before.if1.false (passed_on 9 _ c.before.before.before.before.window-used.ensures c.before.before.before.if2.false (turned-away 9 _ c.before.before.stocks-used.ensures c.before.if3.true c.refused3.ensures))
+    passed_on 9 _ c.before.before.before.before.before.before.district-used.ensures c.before.before.before.before.before.if1.false (passed_on 9 _ c.before.before.before.before.window-used.ensures c.before.before.before.if2.false (turned_away 9 _ c.before.before.stocks-used.ensures c.before.if3.true c.refused3.ensures))
 
 refused-requires-4 : tie.Need-refused-requires-4
 refused-requires-4 c κs = search rules
 
 returns-4 : tie.Need-returns-4
-unfolding levelUsed
+unfolding level_used
 returns-4 c =
     passed_on 9 _ c.before.before.before.before.before.before.district-used.ensures c.before.before.before.before.before.if1.false (passed_on 9 _ c.before.before.before.before.window-used.ensures c.before.before.before.if2.false (passed_on 9 _ c.before.before.stocks-used.ensures c.before.if3.false c.refused4.ensures))
 

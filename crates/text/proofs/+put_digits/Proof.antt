@@ -1,8 +1,8 @@
 use native.Mathlib.Omega.{arith}
 use native.Mathlib.Nat.{mod-eq_of_lt}
 use lib.ListN.{length-set}
-use Rattle.model.proofs.DecimalLaws.{dec-small, dec-more, length_more, length-small}
-use Rattle.text.proofs.Putting.{sets-append}
+use Rattle.model.proofs.DecimalLaws.{dec_small, dec_more, length_more, length_small}
+use Rattle.text.proofs.Putting.{sets_append}
 use Prim.Native.Nat.{ℕ, ◌<◌}
 use borrow.Fn.Kinds.{In}
 use borrow.Fn.PlainCycle.{Measures, is, falls, and}
@@ -43,13 +43,13 @@ put-digits-slice-write-line : (t : ℕ) → put-digits-lts.Need-slice-write-line
   put-digits-below t,
   put-digits.Post,
 ) (put-digits-at t) put-digits.Post
-put-digits-slice-write-line t c = omega (arith, c.before.before.requires.1, length-small c.before.before.args.n c.if1.true)
+put-digits-slice-write-line t c = omega (arith, c.before.before.requires.1, length_small c.before.before.args.n c.if1.true)
 
 put-digits-add-result : (t : ℕ) → put-digits-lts.Need-overflow-add-result (
   put-digits-below t,
   put-digits.Post,
 ) (put-digits-at t) put-digits.Post
-put-digits-add-result t c = omega (arith, c.before.before.requires.1, length-small c.before.before.args.n c.if1.true)
+put-digits-add-result t c = omega (arith, c.before.before.requires.1, length_small c.before.before.args.n c.if1.true)
 
 put-digits-same-length : (t : ℕ) → put-digits-lts.Need-same-length (
   put-digits-below t,
@@ -63,7 +63,7 @@ put-digits-returns :
     (put-digits-below t, put-digits.Post)
     (put-digits-at t)
     put-digits.Post
-put-digits-returns t c = record { same = rw (dec-small c.before.before.args.n c.if1.true, mod-eq_of_lt c.if1.true); place = omega (arith, length-small c.before.before.args.n c.if1.true) }
+put-digits-returns t c = record { same = rw (dec_small c.before.before.args.n c.if1.true, mod-eq_of_lt c.if1.true); place = omega (arith, length_small c.before.before.args.n c.if1.true) }
 
 put-digits-put-digits-requires : (t : ℕ) → put-digits-lts.Need-put-digits-requires (
   put-digits-below t,
@@ -105,7 +105,7 @@ put-digits-returns-2 : (t : ℕ) → put-digits-lts.Need-returns-2 (
   put-digits-below t,
   put-digits.Post,
 ) (put-digits-at t) put-digits.Post
-put-digits-returns-2 t c = let a = c.before.before.before.before.before.before in let u : a.args.n < 100000000000000000000 = omega (arith, a.well-formed.1.1.0) in let r = c.before.before.put-digits in let h = c.before.before.before.before.if1.false in record { same = rw (dec-more a.args.n h u, sets-append, ← r.ensures.same, ← r.ensures.place); place = omega (arith, r.ensures.place, length_more a.args.n h u) }
+put-digits-returns-2 t c = let a = c.before.before.before.before.before.before in let u : a.args.n < 100000000000000000000 = omega (arith, a.well-formed.1.1.0) in let r = c.before.before.put-digits in let h = c.before.before.before.before.if1.false in record { same = rw (dec_more a.args.n h u, sets_append, ← r.ensures.same, ← r.ensures.place); place = omega (arith, r.ensures.place, length_more a.args.n h u) }
 
 pub +put-digits-spec : {M : Type 1} → statement M
 +put-digits-spec = close μ-put-digits λ t. put-digits-lts.spec (

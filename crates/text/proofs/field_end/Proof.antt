@@ -4,7 +4,7 @@ use mathlib.Core.Path.{◌≡◌}
 use mathlib.Core.Bool.{true}
 use lib.ListN.{length, take, drop}
 use Rattle.model.proofs.TextLaws.{without}
-use Rattle.text.proofs.Walk.{part_none, part_step, ends-at-byte, ends-at-end}
+use Rattle.text.proofs.Walk.{part_none, part_step, ends_at_byte, ends_at_end}
 use Rattle.text.proofs.field_end.Statement.{statement}
 use Rattle.text.proofs.field_end.Tie as tie
 use Rattle.text.proofs.field_end.Reads as reads
@@ -26,7 +26,7 @@ shared-slice-read-if1 c =
 
 returns : tie.Need-returns invariant-loop decreases-loop
 returns c =
-    ends-at-byte _ _ _ _ c.before.before.before.loop.invariant.0 c.before.before.loop-test.true c.before.before.before.loop.invariant.1.1 c.if1.true
+    ends_at_byte _ _ _ _ c.before.before.before.loop.invariant.0 c.before.before.loop-test.true c.before.before.before.loop.invariant.1.1 c.if1.true
 
 add-i : tie.Need-overflow-add-i invariant-loop decreases-loop
 add-i c =
@@ -42,7 +42,7 @@ loop-again c =
 
 returns-2 : tie.Need-returns-2 invariant-loop decreases-loop
 returns-2 c =
-    ends-at-end _ _ _ _ c.before.loop.invariant.0 c.before.loop.invariant.1.0 c.loop-test.false c.before.loop.invariant.1.1
+    ends_at_end _ _ _ _ c.before.loop.invariant.0 c.before.loop.invariant.1.0 c.loop-test.false c.before.loop.invariant.1.1
 
 pub field-end-spec : {M : Type 1} → statement M
 field-end-spec =

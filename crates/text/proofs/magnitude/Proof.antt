@@ -1,4 +1,4 @@
-use Rattle.cells.proofs.Signed.{tested, cast-asks}
+use Rattle.cells.proofs.Signed.{tested, cast_asks}
 use Rattle.text.proofs.Putting.{turned, kept}
 use Rattle.text.proofs.magnitude.Statement.{statement}
 use Rattle.text.proofs.magnitude.Tie as tie
@@ -23,7 +23,7 @@ returns c =
 
 cast-result-2 : tie.Need-overflow-cast-result-2
 cast-result-2 c =
-    cast-asks _ c.before.ranges.z (tested _ c.before.ranges.z c.if1.false)
+    cast_asks _ c.before.ranges.z (tested _ c.before.ranges.z c.if1.false)
 
 returns-2 : tie.Need-returns-2
 returns-2 c =

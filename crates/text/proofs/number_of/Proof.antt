@@ -3,9 +3,9 @@ use Prim.Native.Nat.{◌≤◌, ◌-◌, ◌<◌, ◌^◌}
 use mathlib.Core.Path.{◌≡◌, sym, ◌∙◌}
 use lib.ListN.{length, drop}
 use native.Mathlib.Omega.{arith}
-use Rattle.model.proofs.DecimalLaws.{digit-in}
-use Rattle.text.specs.Fields.{numberRead}
-use Rattle.text.proofs.Walk.{digitsFrom, none-empty, none-long, none-zero, digits-all, digits_step, digits-stop, digits-end, power-step, power-top}
+use Rattle.model.proofs.DecimalLaws.{digit_in}
+use Rattle.text.specs.Fields.{number_read}
+use Rattle.text.proofs.Walk.{digits_from, none-empty, none-long, none-zero, digits-all, digits_step, digits-stop, digits_end, power_step, power_top}
 use Rattle.text.proofs.number_of.Statement.{statement}
 use Rattle.text.proofs.number_of.Tie as tie
 use Rattle.text.proofs.number_of.Reads as reads
@@ -14,7 +14,7 @@ use Rattle.text.proofs.is_digit.Reads as is-digit-reads
 use Rattle.text.proofs.wide.Reads as wide-reads
 
 abbrev invariant-loop : tie.invariant-loop
-invariant-loop f n v₀ i₀ v i = (i ≤ length f) × ((length f ≤ 10) × ((n ≡ length f) × ((v < 10 ^ i) × (numberRead f ≡ digitsFrom v (drop i f)))))
+invariant-loop f n v₀ i₀ v i = (i ≤ length f) × ((length f ≤ 10) × ((n ≡ length f) × ((v < 10 ^ i) × (number_read f ≡ digits_from v (drop i f)))))
 
 abbrev decreases-loop : tie.decreases-loop
 decreases-loop f n v₀ i₀ v i = n - i
@@ -53,15 +53,15 @@ is-digit-requires c κs =
 
 mul-v : tie.Need-overflow-mul-v invariant-loop decreases-loop
 mul-v c =
-    omega (arith, power-top c.before.before.before.before.before.loop.v c.before.before.before.before.before.loop.i c.before.before.before.before.before.loop.invariant.1.1.1.0 (search rules))
+    omega (arith, power_top c.before.before.before.before.before.loop.v c.before.before.before.before.before.loop.i c.before.before.before.before.before.loop.invariant.1.1.1.0 (search rules))
 
 sub-v : tie.Need-overflow-sub-v invariant-loop decreases-loop
 sub-v c =
-    omega (arith, (digit-in c.before.before.wide.result (sym c.before.is_digit.ensures ∙ c.if4.true)).low)
+    omega (arith, (digit_in c.before.before.wide.result (sym c.before.is_digit.ensures ∙ c.if4.true)).low)
 
 add-v : tie.Need-overflow-add-v invariant-loop decreases-loop
 add-v c =
-    omega (arith, power-top c.before.before.before.before.before.loop.v c.before.before.before.before.before.loop.i c.before.before.before.before.before.loop.invariant.1.1.1.0 (search rules), (digit-in c.before.before.wide.result (sym c.before.is_digit.ensures ∙ c.if4.true)).high)
+    omega (arith, power_top c.before.before.before.before.before.loop.v c.before.before.before.before.before.loop.i c.before.before.before.before.before.loop.invariant.1.1.1.0 (search rules), (digit_in c.before.before.wide.result (sym c.before.is_digit.ensures ∙ c.if4.true)).high)
 
 returns-4 : tie.Need-returns-4 invariant-loop decreases-loop
 returns-4 c =
@@ -78,11 +78,11 @@ loop-less c =
 loop-again : tie.Need-loop-preserved invariant-loop decreases-loop
 loop-again c =
     let h : c.before.before.before.before.before.loop.i < length c.before.before.before.before.before.before.before.before.before.before.before.args.f.now = search rules in
-    (search rules, (search rules, (search rules, (power-step _ _ _ c.before.before.before.before.before.loop.invariant.1.1.1.0 (digit-in _ (sym c.before.is_digit.ensures ∙ c.if4.true)), c.before.before.before.before.before.loop.invariant.1.1.1.1 ∙ digits_step _ _ _ _ h c.before.before.wide.ensures (sym c.before.is_digit.ensures ∙ c.if4.true)))))
+    (search rules, (search rules, (search rules, (power_step _ _ _ c.before.before.before.before.before.loop.invariant.1.1.1.0 (digit_in _ (sym c.before.is_digit.ensures ∙ c.if4.true)), c.before.before.before.before.before.loop.invariant.1.1.1.1 ∙ digits_step _ _ _ _ h c.before.before.wide.ensures (sym c.before.is_digit.ensures ∙ c.if4.true)))))
 
 returns-5 : tie.Need-returns-5 invariant-loop decreases-loop
 returns-5 c =
-    let h : length c.before.before.before.before.before.before.before.args.f.now ≤ c.before.loop.i = search rules in sym (c.before.loop.invariant.1.1.1.1 ∙ digits-end _ _ _ h)
+    let h : length c.before.before.before.before.before.before.before.args.f.now ≤ c.before.loop.i = search rules in sym (c.before.loop.invariant.1.1.1.1 ∙ digits_end _ _ _ h)
 
 pub number-of-spec : {M : Type 1} → statement M
 number-of-spec =

@@ -1,7 +1,7 @@
 use native.Mathlib.Omega.{arith}
 use mathlib.Core.Path.{◌∙◌}
 use lib.ListN.{length-set}
-use Rattle.model.proofs.DecimalLaws.{dec-most}
+use Rattle.model.proofs.DecimalLaws.{dec_most}
 use Rattle.text.proofs.Putting.{one_field}
 use borrow.Author.Rules.{rules}
 use Rattle.text.proofs.put_number.Statement.{statement}
@@ -26,7 +26,7 @@ same_length c =
 
 returns : tie.Need-returns
 returns c =
-    (one_field _ _ _ _ _ c.before.before.put-digits.ensures, omega (arith, c.before.before.put-digits.ensures.place, dec-most c.before.before.before.before.before.args.n))
+    (one_field _ _ _ _ _ c.before.before.put-digits.ensures, omega (arith, c.before.before.put-digits.ensures.place, dec_most c.before.before.before.before.before.args.n))
 
 pub put-number-spec : {M : Type 1} → statement M
 put-number-spec =

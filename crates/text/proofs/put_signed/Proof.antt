@@ -6,7 +6,7 @@ use lib.IntN.{nat_abs}
 use mir.Facts.{to_z-of_z}
 use Rattle.cells.proofs.Signed.{tested}
 use lib.ListN.{length-set}
-use Rattle.text.proofs.Putting.{magnitude-few, put-plain, put-minus}
+use Rattle.text.proofs.Putting.{magnitude_few, put_plain, put_minus}
 use borrow.Author.Rules.{rules}
 use Rattle.text.proofs.put_signed.Statement.{statement}
 use Rattle.text.proofs.put_signed.Tie as tie
@@ -33,7 +33,7 @@ add-put-digits c = search rules
 
 put-digits-requires : tie.Need-put-digits-requires
 put-digits-requires c κs =
-    let e : c.before.before.magnitude.result ≡ nat_abs c.before.before.before.before.args.z = rw (to_z-of_z c.before.before.before.before.ranges.z) at c.before.before.magnitude.ensures in let s = magnitude-few c.before.before.before.before.args.z c.before.before.magnitude.result c.before.before.before.before.ranges.z e in simp length-set (omega (arith, c.before.before.before.before.requires, s))
+    let e : c.before.before.magnitude.result ≡ nat_abs c.before.before.before.before.args.z = rw (to_z-of_z c.before.before.before.before.ranges.z) at c.before.before.magnitude.ensures in let s = magnitude_few c.before.before.before.before.args.z c.before.before.magnitude.result c.before.before.before.before.ranges.z e in simp length-set (omega (arith, c.before.before.before.before.requires, s))
 
 same_length : tie.Need-same-length
 same_length c =
@@ -41,14 +41,14 @@ same_length c =
 
 returns : tie.Need-returns
 returns c =
-    let e : c.before.before.before.before.before.magnitude.result ≡ nat_abs c.before.before.before.before.before.before.before.args.z = rw (to_z-of_z c.before.before.before.before.before.before.before.ranges.z) at c.before.before.before.before.before.magnitude.ensures in let s = magnitude-few c.before.before.before.before.before.before.before.args.z c.before.before.before.before.before.magnitude.result c.before.before.before.before.before.before.before.ranges.z e in (put-minus _ _ _ _ _ c.before.before.before.before.before.before.before.args.z e (tested _ c.before.before.before.before.before.before.before.ranges.z c.before.before.before.before.if1.true) c.before.before.put-digits.ensures, omega (arith, c.before.before.put-digits.ensures.place, s))
+    let e : c.before.before.before.before.before.magnitude.result ≡ nat_abs c.before.before.before.before.before.before.before.args.z = rw (to_z-of_z c.before.before.before.before.before.before.before.ranges.z) at c.before.before.before.before.before.magnitude.ensures in let s = magnitude_few c.before.before.before.before.before.before.before.args.z c.before.before.before.before.before.magnitude.result c.before.before.before.before.before.before.before.ranges.z e in (put_minus _ _ _ _ _ c.before.before.before.before.before.before.before.args.z e (tested _ c.before.before.before.before.before.before.before.ranges.z c.before.before.before.before.if1.true) c.before.before.put-digits.ensures, omega (arith, c.before.before.put-digits.ensures.place, s))
 
 add-put-digits-2 : tie.Need-overflow-add-put-digits-2
 add-put-digits-2 c = search rules
 
 put-digits-requires-2 : tie.Need-put-digits-requires-2
 put-digits-requires-2 c κs =
-    let e : c.before.before.magnitude.result ≡ nat_abs c.before.before.before.before.args.z = rw (to_z-of_z c.before.before.before.before.ranges.z) at c.before.before.magnitude.ensures in let s = magnitude-few c.before.before.before.before.args.z c.before.before.magnitude.result c.before.before.before.before.ranges.z e in simp length-set (omega (arith, c.before.before.before.before.requires, s))
+    let e : c.before.before.magnitude.result ≡ nat_abs c.before.before.before.before.args.z = rw (to_z-of_z c.before.before.before.before.ranges.z) at c.before.before.magnitude.ensures in let s = magnitude_few c.before.before.before.before.args.z c.before.before.magnitude.result c.before.before.before.before.ranges.z e in simp length-set (omega (arith, c.before.before.before.before.requires, s))
 
 same-length-2 : tie.Need-same-length-2
 same-length-2 c =
@@ -56,7 +56,7 @@ same-length-2 c =
 
 returns-2 : tie.Need-returns-2
 returns-2 c =
-    let e : c.before.before.before.before.before.magnitude.result ≡ nat_abs c.before.before.before.before.before.before.before.args.z = rw (to_z-of_z c.before.before.before.before.before.before.before.ranges.z) at c.before.before.before.before.before.magnitude.ensures in let s = magnitude-few c.before.before.before.before.before.before.before.args.z c.before.before.before.before.before.magnitude.result c.before.before.before.before.before.before.before.ranges.z e in (put-plain _ _ _ _ _ c.before.before.before.before.before.before.before.args.z e (tested _ c.before.before.before.before.before.before.before.ranges.z c.before.before.before.before.if1.false) c.before.before.put-digits2.ensures, omega (arith, c.before.before.put-digits2.ensures.place, s))
+    let e : c.before.before.before.before.before.magnitude.result ≡ nat_abs c.before.before.before.before.before.before.before.args.z = rw (to_z-of_z c.before.before.before.before.before.before.before.ranges.z) at c.before.before.before.before.before.magnitude.ensures in let s = magnitude_few c.before.before.before.before.before.before.before.args.z c.before.before.before.before.before.magnitude.result c.before.before.before.before.before.before.before.ranges.z e in (put_plain _ _ _ _ _ c.before.before.before.before.before.before.before.args.z e (tested _ c.before.before.before.before.before.before.before.ranges.z c.before.before.before.before.if1.false) c.before.before.put-digits2.ensures, omega (arith, c.before.before.put-digits2.ensures.place, s))
 
 pub put-signed-spec : {M : Type 1} → statement M
 put-signed-spec =

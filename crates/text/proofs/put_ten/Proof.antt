@@ -6,9 +6,9 @@ use native.Mathlib.Omega.{arith}
 use lib.IntN.{pos}
 use lib.ListN.{length, take, length-map}
 use Rattle.model.specs.Text.{signeds, positives, tabbed}
-use Rattle.model.proofs.DecimalLaws.{dec-most}
+use Rattle.model.proofs.DecimalLaws.{dec_most}
 use Rattle.text.specs.Writing.{Wrote}
-use Rattle.text.proofs.Putting.{no_field, number_step, number-all, positive-at}
+use Rattle.text.proofs.Putting.{no_field, number_step, number-all, positive_at}
 use Rattle.text.proofs.put_ten.Statement.{statement}
 use Rattle.text.proofs.put_ten.Tie as tie
 use Rattle.text.proofs.put_ten.Reads as reads
@@ -33,7 +33,7 @@ array-read-put-number c = search rules
 
 put-number-requires : tie.Need-put-number-requires invariant-loop decreases-loop
 put-number-requires c κs =
-    omega (arith, c.before.before.before.before.requires, c.before.loop-test.true, c.before.before.loop.invariant.1.1.0, c.before.before.loop.invariant.1.1.1.0, dec-most (get_or c.before.before.before.before.args.t3 c.before.before.loop.i 0))
+    omega (arith, c.before.before.before.before.requires, c.before.loop-test.true, c.before.before.loop.invariant.1.1.0, c.before.before.loop.invariant.1.1.1.0, dec_most (get_or c.before.before.before.before.args.t3 c.before.before.loop.i 0))
 
 add-i : tie.Need-overflow-add-i invariant-loop decreases-loop
 add-i c = search rules
@@ -43,7 +43,7 @@ loop-less c = search rules
 
 loop-again : tie.Need-loop-preserved invariant-loop decreases-loop
 loop-again c =
-    (search rules, (search rules, (search rules, (omega (arith, c.before.before.put-number.ensures.1, c.before.before.before.before.before.loop.invariant.1.1.1.0), number_step _ _ _ _ c.before.before.before.before.before.loop.i (positives c.before.before.before.before.before.before.before.args.t3) _ _ (omega (arith, c.before.before.before.before.loop-test.true, c.before.before.before.before.before.loop.invariant.1.0, length-map c.before.before.before.before.before.before.before.args.t3 pos)) c.before.before.before.before.before.loop.invariant.1.1.1.1 (positive-at _ _ _ _ c.before.before.before.before.before.loop.i c.before.before.before.before.before.before.before.args.t3 c.before.before.put-number.ensures.0)))))
+    (search rules, (search rules, (search rules, (omega (arith, c.before.before.put-number.ensures.1, c.before.before.before.before.before.loop.invariant.1.1.1.0), number_step _ _ _ _ c.before.before.before.before.before.loop.i (positives c.before.before.before.before.before.before.before.args.t3) _ _ (omega (arith, c.before.before.before.before.loop-test.true, c.before.before.before.before.before.loop.invariant.1.0, length-map c.before.before.before.before.before.before.before.args.t3 pos)) c.before.before.before.before.before.loop.invariant.1.1.1.1 (positive_at _ _ _ _ c.before.before.before.before.before.loop.i c.before.before.before.before.before.before.before.args.t3 c.before.before.put-number.ensures.0)))))
 
 same_length : tie.Need-same-length invariant-loop decreases-loop
 same_length c = search rules

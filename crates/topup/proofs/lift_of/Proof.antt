@@ -1,4 +1,4 @@
-use Rattle.topup.proofs.Rows.{lift-held, lift-read}
+use Rattle.topup.proofs.Rows.{lift_held, lift_read}
 use Rattle.std.proofs.Common.{rules}
 use Rattle.topup.proofs.lift_of.Statement.{statement}
 use Rattle.topup.proofs.lift_of.Tie as tie
@@ -17,11 +17,11 @@ add-held c = search rules
 
 held-requires : tie.Need-held-requires
 held-requires c κs =
-    lift-held c.args.d c.args.topup.now c.requires.1.0 c.args.item c.requires.1.1
+    lift_held c.args.d c.args.topup.now c.requires.1.0 c.args.item c.requires.1.1
 
 returns : tie.Need-returns
 returns c =
-    lift-read c.before.args.topup.now c.before.args.item c.held.ensures
+    lift_read c.before.args.topup.now c.before.args.item c.held.ensures
 
 pub lift-of-spec : {M : Type 1} → statement M
 lift-of-spec = tie.close (tie.spec sub_held mul-held add-held held-requires returns)

@@ -1,8 +1,8 @@
 use Rattle.topup.proofs.Rows.{Kept, none_kept, kept_step}
 use Rattle.std.proofs.Common.{◌-◌, ◌≤◌, rules}
-use Rattle.model.specs.Tests.{allTo}
+use Rattle.model.specs.Tests.{all_to}
 use Rattle.model.specs.TopUp.{row_ok}
-use Rattle.model.proofs.ListLaws.{at-end}
+use Rattle.model.proofs.ListLaws.{at_end}
 use Rattle.topup.proofs.rows_ok.Statement.{statement}
 use Rattle.topup.proofs.rows_ok.Tie as tie
 use Rattle.topup.proofs.rows_ok.Reads as reads
@@ -59,7 +59,7 @@ loop-again c =
 
 returns : tie.Need-returns invariant-loop decreases-loop
 returns c =
-    at-end (λ i. allTo i (row_ok c.before.before.args.topup.now)) c.before.loop.invariant.0 c.loop-test.false c.before.loop.invariant.1
+    at_end (λ i. all_to i (row_ok c.before.before.args.topup.now)) c.before.loop.invariant.0 c.loop-test.false c.before.loop.invariant.1
 
 pub rows-ok-spec : {M : Type 1} → statement M
 rows-ok-spec =

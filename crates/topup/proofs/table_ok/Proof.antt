@@ -1,4 +1,4 @@
-use Rattle.topup.proofs.Rows.{table_is, table-short}
+use Rattle.topup.proofs.Rows.{table_is, table_short}
 use Rattle.std.proofs.Common.{rules}
 use Rattle.topup.proofs.table_ok.Statement.{statement}
 use Rattle.topup.proofs.table_ok.Tie as tie
@@ -11,7 +11,7 @@ mul-if1 c = search rules
 
 returns : tie.Need-returns
 returns c =
-    table-short c.before.before.args.d c.before.before.args.topup.now c.if1.true
+    table_short c.before.before.args.d c.before.before.args.topup.now c.if1.true
 
 rows-ok-requires : tie.Need-rows-ok-requires
 rows-ok-requires c κs = search rules

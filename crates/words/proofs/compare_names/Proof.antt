@@ -1,4 +1,4 @@
-use Rattle.words.proofs.Words.{second-words, compared}
+use Rattle.words.proofs.Words.{second_words, compared}
 use lib.ListN.{get_or}
 use Prim.Native.Nat.{ℕ, ◌<◌}
 use native.Mathlib.Omega.{arith}
@@ -54,7 +54,7 @@ returns-2 : tie.Need-returns-2
 returns-2 c =
     let f : (i : ℕ) → get_or c.before.before.before.before.before.before.before.before.before.before.args.a.now i 0 < 256 = λ i. omega (arith, c.before.before.before.before.before.before.before.before.before.shared-slice-known.given i) in
     let g : (i : ℕ) → get_or c.before.before.before.before.before.before.before.before.before.before.args.b.now i 0 < 256 = λ i. omega (arith, c.before.before.before.before.before.before.before.before.shared-slice-known2.given i) in
-    compared _ _ _ _ c.before.before.before.before.before.before.before.before.before.before.requires.0 c.before.before.before.before.before.before.before.before.before.before.requires.1 f g c.before.before.before.before.before.before.before.word_at.ensures c.before.before.before.before.before.before.word-at2.ensures c.before.before.before.before.before.compare-numbers.ensures c.before.before.before.enum-told2.given.1 (second-words _ _ _ _ c.before.before.before.before.before.before.before.before.before.before.requires.0 c.before.before.before.before.before.before.before.before.before.before.requires.1 c.before.before.word-at3.ensures c.before.word-at4.ensures c.compare-numbers2.ensures)
+    compared _ _ _ _ c.before.before.before.before.before.before.before.before.before.before.requires.0 c.before.before.before.before.before.before.before.before.before.before.requires.1 f g c.before.before.before.before.before.before.before.word_at.ensures c.before.before.before.before.before.before.word-at2.ensures c.before.before.before.before.before.compare-numbers.ensures c.before.before.before.enum-told2.given.1 (second_words _ _ _ _ c.before.before.before.before.before.before.before.before.before.before.requires.0 c.before.before.before.before.before.before.before.before.before.before.requires.1 c.before.before.word-at3.ensures c.before.word-at4.ensures c.compare-numbers2.ensures)
 
 returns-3 : tie.Need-returns-3
 returns-3 c =

@@ -1,4 +1,4 @@
-use Rattle.words.proofs.Words.{word-eight}
+use Rattle.words.proofs.Words.{word_eight}
 use borrow.Author.Rules.{rules}
 use Rattle.words.proofs.word.Statement.{statement}
 use Rattle.words.proofs.word.Tie as tie
@@ -56,7 +56,7 @@ with-byte-requires-8 c κs = search rules
 
 returns : tie.Need-returns
 returns c =
-    word-eight _ c.before.before.before.before.before.before.before.before.before.before.before.before.before.before.before.before.before.requires c.before.before.before.before.before.before.before.before.before.before.before.before.before.before.with_byte.ensures.0 c.before.before.before.before.before.before.before.before.before.before.before.before.with-byte2.ensures.0 c.before.before.before.before.before.before.before.before.before.before.with-byte3.ensures.0 c.before.before.before.before.before.before.before.before.with-byte4.ensures.0 c.before.before.before.before.before.before.with-byte5.ensures.0 c.before.before.before.before.with-byte6.ensures.0 c.before.before.with-byte7.ensures.0 c.with-byte8.ensures.0
+    word_eight _ c.before.before.before.before.before.before.before.before.before.before.before.before.before.before.before.before.before.requires c.before.before.before.before.before.before.before.before.before.before.before.before.before.before.with_byte.ensures.0 c.before.before.before.before.before.before.before.before.before.before.before.before.with-byte2.ensures.0 c.before.before.before.before.before.before.before.before.before.before.with-byte3.ensures.0 c.before.before.before.before.before.before.before.before.with-byte4.ensures.0 c.before.before.before.before.before.before.with-byte5.ensures.0 c.before.before.before.before.with-byte6.ensures.0 c.before.before.with-byte7.ensures.0 c.with-byte8.ensures.0
 
 pub word-spec : {M : Type 1} → statement M
 word-spec =

@@ -1,4 +1,4 @@
-use Rattle.words.proofs.Words.{word-part}
+use Rattle.words.proofs.Words.{word_part}
 use mathlib.Core.Path.{◌∙◌}
 use borrow.Author.Rules.{rules}
 use Rattle.words.proofs.word_at.Statement.{statement}
@@ -23,7 +23,7 @@ word-requires : tie.Need-word-requires
 word-requires c κs = search rules
 
 returns : tie.Need-returns
-returns c = c.word.ensures ∙ word-part c.before.before.before.args.a.now c.before.before.before.args.p
+returns c = c.word.ensures ∙ word_part c.before.before.before.args.a.now c.before.before.before.args.p
 
 pub word-at-spec : {M : Type 1} → statement M
 word-at-spec =

@@ -1,5 +1,5 @@
 use borrow.Author.Rules.{rules}
-use Rattle.model.specs.RequestLine.{hasForm}
+use Rattle.model.specs.RequestLine.{has_form}
 use Rattle.writing.proofs.delivery_ok.Statement.{statement}
 use Rattle.writing.proofs.delivery_ok.Tie as tie
 use Rattle.writing.proofs.delivery_ok.Reads as reads
@@ -16,7 +16,7 @@ small-requires-3 : tie.Need-small-requires-3
 small-requires-3 c κs = search rules
 
 returns : tie.Need-returns
-unfolding hasForm
+unfolding has_form
 returns c =
     rw (c.before.before.small.ensures, c.before.small2.ensures, c.small3.ensures)
 

@@ -1,5 +1,5 @@
 use borrow.Author.Rules.{rules}
-use Rattle.model.specs.RequestLine.{hasForm}
+use Rattle.model.specs.RequestLine.{has_form}
 use Rattle.writing.proofs.new_order_ok.Statement.{statement}
 use Rattle.writing.proofs.new_order_ok.Tie as tie
 use Rattle.writing.proofs.new_order_ok.Reads as reads
@@ -27,7 +27,7 @@ lines-small-requires : tie.Need-lines-small-requires
 lines-small-requires c κs = search rules
 
 returns : tie.Need-returns
-unfolding hasForm
+unfolding has_form
 returns c =
     rw (c.before.before.before.before.before.count.ensures.0, c.before.before.before.before.small.ensures, c.before.before.before.small2.ensures, c.before.before.small3.ensures, c.before.small4.ensures, c.lines-small.ensures)
 

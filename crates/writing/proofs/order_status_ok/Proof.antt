@@ -1,5 +1,5 @@
 use borrow.Author.Rules.{rules}
-use Rattle.model.specs.RequestLine.{hasForm}
+use Rattle.model.specs.RequestLine.{has_form}
 use Rattle.writing.proofs.order_status_ok.Statement.{statement}
 use Rattle.writing.proofs.order_status_ok.Tie as tie
 use Rattle.writing.proofs.order_status_ok.Reads as reads
@@ -17,9 +17,9 @@ who-ok-requires : tie.Need-who-ok-requires
 who-ok-requires c κs = search rules
 
 returns : tie.Need-returns
-unfolding hasForm
+unfolding has_form
 returns c =
-    rw (c.before.before.small.ensures, c.before.small2.ensures, c.who-ok.ensures)
+    rw (c.before.before.small.ensures, c.before.small2.ensures, c.who_ok.ensures)
 
 pub order-status-ok-spec : {M : Type 1} → statement M
 order-status-ok-spec = tie.close (tie.spec small-requires small-requires-2 who-ok-requires returns)

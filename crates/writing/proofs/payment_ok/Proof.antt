@@ -1,5 +1,5 @@
 use borrow.Author.Rules.{rules}
-use Rattle.model.specs.RequestLine.{hasForm}
+use Rattle.model.specs.RequestLine.{has_form}
 use Rattle.writing.proofs.payment_ok.Statement.{statement}
 use Rattle.writing.proofs.payment_ok.Tie as tie
 use Rattle.writing.proofs.payment_ok.Reads as reads
@@ -29,9 +29,9 @@ small-requires-6 : tie.Need-small-requires-6
 small-requires-6 c κs = search rules
 
 returns : tie.Need-returns
-unfolding hasForm
+unfolding has_form
 returns c =
-    rw (c.before.before.before.before.before.before.small.ensures, c.before.before.before.before.before.small2.ensures, c.before.before.before.before.small3.ensures, c.before.before.before.small4.ensures, c.before.before.who-ok.ensures, c.before.small5.ensures, c.small6.ensures)
+    rw (c.before.before.before.before.before.before.small.ensures, c.before.before.before.before.before.small2.ensures, c.before.before.before.before.small3.ensures, c.before.before.before.small4.ensures, c.before.before.who_ok.ensures, c.before.small5.ensures, c.small6.ensures)
 
 pub payment-ok-spec : {M : Type 1} → statement M
 payment-ok-spec =

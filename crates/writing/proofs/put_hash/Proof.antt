@@ -3,8 +3,8 @@ use mathlib.Core.Path.{◌∙◌}
 use native.Mathlib.Omega.{arith}
 use Prim.Native.Nat.{◌+◌}
 use lib.ListN.{set, length-set}
-use Rattle.model.proofs.DecimalLaws.{dec-most}
-use Rattle.text.proofs.Putting.{marked-field}
+use Rattle.model.proofs.DecimalLaws.{dec_most}
+use Rattle.text.proofs.Putting.{marked_field}
 use Rattle.writing.proofs.put_hash.Statement.{statement}
 use Rattle.writing.proofs.put_hash.Tie as tie
 use Rattle.writing.proofs.put_hash.Reads as reads
@@ -26,7 +26,7 @@ add-put-digits c = search rules
 
 put-digits-requires : tie.Need-put-digits-requires
 put-digits-requires c κs =
-    simp length-set (omega (arith, c.before.before.requires, dec-most c.before.before.args.c))
+    simp length-set (omega (arith, c.before.before.requires, dec_most c.before.before.args.c))
 
 same_length : tie.Need-same-length
 same_length c =
@@ -34,7 +34,7 @@ same_length c =
 
 returns : tie.Need-returns
 returns c =
-    (marked-field _ _ _ _ _ _ c.before.before.put-digits.ensures, omega (arith, c.before.before.put-digits.ensures.place, dec-most c.before.before.before.before.before.args.c))
+    (marked_field _ _ _ _ _ _ c.before.before.put-digits.ensures, omega (arith, c.before.before.put-digits.ensures.place, dec_most c.before.before.before.before.before.args.c))
 
 pub put-hash-spec : {M : Type 1} → statement M
 put-hash-spec =

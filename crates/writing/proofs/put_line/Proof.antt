@@ -3,9 +3,9 @@ use native.Mathlib.Omega.{arith}
 use mathlib.Core.Path.{◌≡◌, subst}
 use mathlib.Core.Bool.{true}
 use Rattle.model.specs.declared.Form.{Form}
-use Rattle.model.specs.Request.{requestOf, lines_of}
-use Rattle.model.specs.RequestLine.{hasForm, fields_of, line_of}
-use Rattle.writing.proofs.Putting.{order-few, payment-who, status-who}
+use Rattle.model.specs.Request.{request_of, lines_of}
+use Rattle.model.specs.RequestLine.{has_form, fields_of, line_of}
+use Rattle.writing.proofs.Putting.{order-few, payment-who, status_who}
 use Rattle.writing.proofs.put_line.Statement.{statement}
 use Rattle.writing.proofs.put_line.Tie as tie
 use Rattle.writing.proofs.put_line.Reads as reads
@@ -20,14 +20,14 @@ enum-known-form c = search rules
 
 put-new-order-requires : tie.Need-put-new-order-requires
 put-new-order-requires c κs =
-    (order-few _ _ (subst (λ (f : Form). hasForm (requestOf f (lines_of c.before.before.before.before.before.before.before.before.before.args.items.now c.before.before.before.before.before.before.before.before.before.args.supplies.now c.before.before.before.before.before.before.before.before.before.args.quantities.now) c.before.before.before.before.before.before.before.before.before.args.name.now) ≡ true) c.before.before.form.given.1 c.before.before.before.before.before.before.before.before.before.requires.0), c.before.before.before.before.before.before.before.before.before.requires.1)
+    (order-few _ _ (subst (λ (f : Form). has_form (request_of f (lines_of c.before.before.before.before.before.before.before.before.before.args.items.now c.before.before.before.before.before.before.before.before.before.args.supplies.now c.before.before.before.before.before.before.before.before.before.args.quantities.now) c.before.before.before.before.before.before.before.before.before.args.name.now) ≡ true) c.before.before.form.given.1 c.before.before.before.before.before.before.before.before.before.requires.0), c.before.before.before.before.before.before.before.before.before.requires.1)
 
 enum-known-form-2 : tie.Need-enum-known-form-2
 enum-known-form-2 c = search rules
 
 put-payment-requires : tie.Need-put-payment-requires
 put-payment-requires c κs =
-    (payment-who _ _ (subst (λ (f : Form). hasForm (requestOf f (lines_of c.before.before.before.before.before.before.before.before.before.args.items.now c.before.before.before.before.before.before.before.before.before.args.supplies.now c.before.before.before.before.before.before.before.before.before.args.quantities.now) c.before.before.before.before.before.before.before.before.before.args.name.now) ≡ true) c.before.before.form2.given.1 c.before.before.before.before.before.before.before.before.before.requires.0), c.before.before.before.before.before.before.before.before.before.requires.1)
+    (payment-who _ _ (subst (λ (f : Form). has_form (request_of f (lines_of c.before.before.before.before.before.before.before.before.before.args.items.now c.before.before.before.before.before.before.before.before.before.args.supplies.now c.before.before.before.before.before.before.before.before.before.args.quantities.now) c.before.before.before.before.before.before.before.before.before.args.name.now) ≡ true) c.before.before.form2.given.1 c.before.before.before.before.before.before.before.before.before.requires.0), c.before.before.before.before.before.before.before.before.before.requires.1)
 
 enum-known-form-3 : tie.Need-enum-known-form-3
 enum-known-form-3 c = search rules
@@ -41,7 +41,7 @@ enum-known-form-4 c = search rules
 
 put-order-status-requires : tie.Need-put-order-status-requires
 put-order-status-requires c κs =
-    (status-who _ _ (subst (λ (f : Form). hasForm (requestOf f (lines_of c.before.before.before.before.before.before.before.before.before.args.items.now c.before.before.before.before.before.before.before.before.before.args.supplies.now c.before.before.before.before.before.before.before.before.before.args.quantities.now) c.before.before.before.before.before.before.before.before.before.args.name.now) ≡ true) c.before.before.form4.given.1 c.before.before.before.before.before.before.before.before.before.requires.0), c.before.before.before.before.before.before.before.before.before.requires.1)
+    (status_who _ _ (subst (λ (f : Form). has_form (request_of f (lines_of c.before.before.before.before.before.before.before.before.before.args.items.now c.before.before.before.before.before.before.before.before.before.args.supplies.now c.before.before.before.before.before.before.before.before.before.args.quantities.now) c.before.before.before.before.before.before.before.before.before.args.name.now) ≡ true) c.before.before.form4.given.1 c.before.before.before.before.before.before.before.before.before.requires.0), c.before.before.before.before.before.before.before.before.before.requires.1)
 
 enum-known-form-5 : tie.Need-enum-known-form-5
 enum-known-form-5 c = search rules

@@ -3,12 +3,12 @@ use mathlib.Core.Path.{◌≡◌}
 use Prim.Native.Nat.{◌+◌, ◌*◌, ◌≤◌, ◌-◌, ◌<◌}
 use native.Mathlib.Omega.{arith}
 use lib.ListN.{length, take}
-use Rattle.model.specs.RequestLine.{lineFields}
+use Rattle.model.specs.RequestLine.{line_fields}
 use Rattle.model.specs.Request.{lines_of}
 use Rattle.model.specs.Text.{tabbed}
 use Rattle.text.specs.Writing.{Wrote}
 use Rattle.text.proofs.Putting.{no_field}
-use Rattle.writing.proofs.Putting.{put-more, put_all}
+use Rattle.writing.proofs.Putting.{put_more, put_all}
 use Rattle.writing.proofs.put_lines.Statement.{statement}
 use Rattle.writing.proofs.put_lines.Tie as tie
 use Rattle.writing.proofs.put_lines.Reads as reads
@@ -17,7 +17,7 @@ use Rattle.writing.proofs.count.Reads as count-reads
 use Rattle.text.proofs.put_three.Reads as put-three-reads
 
 abbrev invariant-loop : tie.invariant-loop
-invariant-loop line₀ at items supplies quantities n p₀ i₀ line p i = (i ≤ n) × ((n ≡ length (lines_of items supplies quantities)) × ((n ≤ length items) × ((n ≤ length supplies) × ((n ≤ length quantities) × ((length line ≡ length line₀) × ((p ≤ at + 63 * i) × Wrote line₀ line at p (tabbed (lineFields (take i (lines_of items supplies quantities))))))))))
+invariant-loop line₀ at items supplies quantities n p₀ i₀ line p i = (i ≤ n) × ((n ≡ length (lines_of items supplies quantities)) × ((n ≤ length items) × ((n ≤ length supplies) × ((n ≤ length quantities) × ((length line ≡ length line₀) × ((p ≤ at + 63 * i) × Wrote line₀ line at p (tabbed (line_fields (take i (lines_of items supplies quantities))))))))))
 
 abbrev decreases-loop : tie.decreases-loop
 decreases-loop line₀ at items supplies quantities n p₀ i₀ line p i = n - i
@@ -69,7 +69,7 @@ loop-less c =
 loop-again : tie.Need-loop-preserved invariant-loop decreases-loop
 loop-again c =
     let h : c.before.before.before.before.before.before.before.before.loop.i < length (lines_of c.before.before.before.before.before.before.before.before.before.before.before.before.before.before.args.items.now c.before.before.before.before.before.before.before.before.before.before.before.before.before.before.args.supplies.now c.before.before.before.before.before.before.before.before.before.before.before.before.before.before.args.quantities.now) = omega (arith, c.before.before.before.before.before.before.before.loop-test.true, c.before.before.before.before.before.before.before.before.loop.invariant.1.0) in
-    (search rules, (search rules, (search rules, (search rules, (search rules, (search rules, (omega (arith, c.before.before.put_three.ensures.1, c.before.before.before.before.before.before.before.before.loop.invariant.1.1.1.1.1.1.0), put-more _ _ _ _ _ _ _ _ _ _ h c.before.before.before.before.before.before.before.before.loop.invariant.1.1.1.1.1.1.1 c.before.before.put_three.ensures.0)))))))
+    (search rules, (search rules, (search rules, (search rules, (search rules, (search rules, (omega (arith, c.before.before.put_three.ensures.1, c.before.before.before.before.before.before.before.before.loop.invariant.1.1.1.1.1.1.0), put_more _ _ _ _ _ _ _ _ _ _ h c.before.before.before.before.before.before.before.before.loop.invariant.1.1.1.1.1.1.1 c.before.before.put_three.ensures.0)))))))
 
 same_length : tie.Need-same-length invariant-loop decreases-loop
 same_length c =

@@ -3,7 +3,7 @@ use mathlib.Core.Path.{◌∙◌}
 use native.Mathlib.Omega.{arith}
 use Prim.Native.Nat.{◌+◌}
 use lib.ListN.{set, length-set}
-use Rattle.text.proofs.Putting.{marked-field}
+use Rattle.text.proofs.Putting.{marked_field}
 use Rattle.writing.proofs.Putting.{copied}
 use Rattle.lines.proofs.Whos.{name-short}
 use Rattle.writing.proofs.put_name.Statement.{statement}
@@ -41,7 +41,7 @@ same_length c =
 
 returns : tie.Need-returns
 returns c =
-    (rw c.before.before.copy.ensures (marked-field c.before.before.before.before.before.before.args.line.now _ c.before.before.before.before.before.before.args.at _ 61 c.before.before.before.before.before.before.args.name.now (copied _ _ c.before.before.before.before.before.before.args.name.now (simp length-set (omega (arith, c.before.before.before.before.before.before.requires.1, name-short c.before.before.before.before.before.before.args.name.now c.before.before.before.before.before.before.requires.0))))), omega (arith, name-short c.before.before.before.before.before.before.args.name.now c.before.before.before.before.before.before.requires.0))
+    (rw c.before.before.copy.ensures (marked_field c.before.before.before.before.before.before.args.line.now _ c.before.before.before.before.before.before.args.at _ 61 c.before.before.before.before.before.before.args.name.now (copied _ _ c.before.before.before.before.before.before.args.name.now (simp length-set (omega (arith, c.before.before.before.before.before.before.requires.1, name-short c.before.before.before.before.before.before.args.name.now c.before.before.before.before.before.before.requires.0))))), omega (arith, name-short c.before.before.before.before.before.before.args.name.now c.before.before.before.before.before.before.requires.0))
 
 pub put-name-spec : {M : Type 1} → statement M
 put-name-spec =

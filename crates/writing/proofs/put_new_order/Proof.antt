@@ -3,7 +3,7 @@ use mathlib.Core.Path.{◌∙◌}
 use native.Mathlib.Omega.{arith}
 use lib.ListN.{length-set}
 use Rattle.model.specs.RequestLine.{fields_of, line_of}
-use Rattle.text.proofs.Putting.{fields-then, whole-line}
+use Rattle.text.proofs.Putting.{fields_then, whole-line}
 use Rattle.writing.proofs.put_new_order.Statement.{statement}
 use Rattle.writing.proofs.put_new_order.Tie as tie
 use Rattle.writing.proofs.put_new_order.Reads as reads
@@ -41,7 +41,7 @@ same_length c =
 returns : tie.Need-returns
 unfolding fields_of line_of
 returns c =
-    (whole-line _ _ _ _ _ (fields-then _ _ _ _ _ _ _ _ (fields-then _ _ _ _ _ _ _ _ c.before.before.before.before.before.before.before.before.before.before.put_two.ensures.0 c.before.before.before.before.before.before.put-two2.ensures.0) c.before.before.put-lines.ensures.0), omega (arith, c.before.before.before.before.before.before.before.before.before.before.before.before.before.before.before.before.requires.0, c.before.before.before.before.before.before.before.before.before.before.put_two.ensures.1, c.before.before.before.before.before.before.put-two2.ensures.1, c.before.before.put-lines.ensures.1))
+    (whole-line _ _ _ _ _ (fields_then _ _ _ _ _ _ _ _ (fields_then _ _ _ _ _ _ _ _ c.before.before.before.before.before.before.before.before.before.before.put_two.ensures.0 c.before.before.before.before.before.before.put-two2.ensures.0) c.before.before.put-lines.ensures.0), omega (arith, c.before.before.before.before.before.before.before.before.before.before.before.before.before.before.before.before.requires.0, c.before.before.before.before.before.before.before.before.before.before.put_two.ensures.1, c.before.before.before.before.before.before.put-two2.ensures.1, c.before.before.put-lines.ensures.1))
 
 pub put-new-order-spec : {M : Type 1} → statement M
 put-new-order-spec =

@@ -2,8 +2,8 @@ use borrow.Author.Rules.{rules}
 use mathlib.Core.Path.{◌≡◌, subst}
 use mathlib.Core.Bool.{true}
 use Rattle.model.specs.declared.Selection.{Selection}
-use Rattle.model.specs.Names.{whoOf}
-use Rattle.model.specs.RequestLine.{hasWho}
+use Rattle.model.specs.Names.{who_of}
+use Rattle.model.specs.RequestLine.{has_who}
 use Rattle.writing.proofs.put_who.Statement.{statement}
 use Rattle.writing.proofs.put_who.Tie as tie
 use Rattle.writing.proofs.put_who.Reads as reads
@@ -23,7 +23,7 @@ enum_told c = search rules
 
 put-name-requires : tie.Need-put-name-requires
 put-name-requires c κs =
-    (subst (λ (w : Selection). hasWho (whoOf w c.before.before.before.before.before.args.name.now) ≡ true) c.before.enum_told.given.1 c.before.before.before.before.before.requires.0, c.before.before.before.before.before.requires.1)
+    (subst (λ (w : Selection). has_who (who_of w c.before.before.before.before.before.args.name.now) ≡ true) c.before.enum_told.given.1 c.before.before.before.before.before.requires.0, c.before.before.before.before.before.requires.1)
 
 same_length : tie.Need-same-length
 same_length c = search rules
