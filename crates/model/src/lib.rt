@@ -3,7 +3,7 @@
 #![tactic(auto)]
 
 // The head numbers that fix the book's size: W, C, I, O and H.
-#[derive(Drop)]
+#[derive(Clone, Copy)]
 pub struct Dims {
     pub warehouses: u64,
     pub customers: u64,
@@ -14,7 +14,7 @@ pub struct Dims {
 
 // One line of a New-Order: the item, the supplying warehouse, the quantity.
 #[repr(C)]
-#[derive(Drop)]
+#[derive(Clone, Copy)]
 pub struct Line {
     pub item: u64,
     pub supply: u64,
@@ -22,7 +22,7 @@ pub struct Line {
 }
 
 // A New-Order without its lines, which are lent beside it.
-#[derive(Drop)]
+#[derive(Clone, Copy)]
 pub struct NewOrder {
     pub warehouse: u64,
     pub district: u64,
@@ -31,7 +31,7 @@ pub struct NewOrder {
 }
 
 // A Payment without who pays, who is given beside it.
-#[derive(Drop)]
+#[derive(Clone, Copy)]
 pub struct Payment {
     pub warehouse: u64,
     pub district: u64,
@@ -41,7 +41,7 @@ pub struct Payment {
     pub amount: u64,
 }
 
-#[derive(Drop)]
+#[derive(Clone, Copy)]
 pub struct Delivery {
     pub warehouse: u64,
     pub carrier: u64,
@@ -50,7 +50,7 @@ pub struct Delivery {
 
 // R-5: a Delivery that waits for its turn, with the date of queuing.
 #[repr(C)]
-#[derive(Drop)]
+#[derive(Clone, Copy)]
 pub struct Waiting {
     pub date: u64,
     pub warehouse: u64,
@@ -59,20 +59,20 @@ pub struct Waiting {
 
 // R-5: how many wait, and their places, the oldest first.
 #[repr(C)]
-#[derive(Drop)]
+#[derive(Clone, Copy)]
 pub struct Queue {
     pub count: u64,
     pub waiting: [Waiting; 16],
 }
 
 // An Order-Status without whose, who is given beside it.
-#[derive(Drop)]
+#[derive(Clone, Copy)]
 pub struct OrderStatus {
     pub warehouse: u64,
     pub district: u64,
 }
 
-#[derive(Drop)]
+#[derive(Clone, Copy)]
 pub struct StockLevel {
     pub warehouse: u64,
     pub district: u64,
@@ -80,14 +80,14 @@ pub struct StockLevel {
 }
 
 // Who: a customer number, or the last name that is lent beside.
-#[derive(Drop)]
+#[derive(Clone, Copy)]
 pub enum Selection {
     Number(u64),
     LastName,
 }
 
 // How two names compare, byte by byte from the left.
-#[derive(Drop)]
+#[derive(Clone, Copy)]
 pub enum Comparison {
     Smaller,
     Equal,
@@ -95,103 +95,103 @@ pub enum Comparison {
 }
 
 // What finding a customer answers.
-#[derive(Drop)]
+#[derive(Clone, Copy)]
 pub enum Found {
     Customer(u64),
     Nobody,
 }
 
 // A refusal's number and detail; both 0 where nothing is refused.
-#[derive(Drop)]
+#[derive(Clone, Copy)]
 pub struct Refusal {
     pub number: u64,
     pub detail: u64,
 }
 
-#[derive(Drop)]
+#[derive(Clone, Copy)]
 pub enum OpeningOutcome {
     Accepted,
     Refused(Refusal),
 }
 
-#[derive(Drop)]
+#[derive(Clone, Copy)]
 pub struct OpeningAnswer {
     pub outcome: OpeningOutcome,
 }
 
 // R-6: `lifts` is how many of the order's lines lifted their stock.
-#[derive(Drop)]
+#[derive(Clone, Copy)]
 pub struct NewOrderFigures {
     pub order: u64,
     pub total: u64,
     pub lifts: u64,
 }
 
-#[derive(Drop)]
+#[derive(Clone, Copy)]
 pub enum NewOrderOutcome {
     Committed(NewOrderFigures),
     Refused(Refusal),
 }
 
-#[derive(Drop)]
+#[derive(Clone, Copy)]
 pub struct NewOrderAnswer {
     pub outcome: NewOrderOutcome,
 }
 
-#[derive(Drop)]
+#[derive(Clone, Copy)]
 pub struct PaymentFigures {
     pub customer: u64,
     pub balance: i64,
 }
 
-#[derive(Drop)]
+#[derive(Clone, Copy)]
 pub enum PaymentOutcome {
     Committed(PaymentFigures),
     Refused(Refusal),
 }
 
-#[derive(Drop)]
+#[derive(Clone, Copy)]
 pub struct PaymentAnswer {
     pub outcome: PaymentOutcome,
 }
 
-#[derive(Drop)]
+#[derive(Clone, Copy)]
 pub struct DeliveryFigures {
     pub skipped: u64,
     pub mark: u64,
 }
 
-#[derive(Drop)]
+#[derive(Clone, Copy)]
 pub enum DeliveryOutcome {
     Committed(DeliveryFigures),
     Refused(Refusal),
 }
 
 // The ten order numbers stand beside the outcome.
-#[derive(Drop)]
+#[derive(Clone, Copy)]
 pub struct DeliveryAnswer {
     pub outcome: DeliveryOutcome,
     pub orders: [u64; 10],
 }
 
 // R-5: how many stood before the Delivery that was queued.
-#[derive(Drop)]
+#[derive(Clone, Copy)]
 pub struct QueueFigures {
     pub before: u64,
 }
 
-#[derive(Drop)]
+#[derive(Clone, Copy)]
 pub enum QueueOutcome {
     Committed(QueueFigures),
     Refused(Refusal),
 }
 
-#[derive(Drop)]
+#[derive(Clone, Copy)]
 pub struct QueueAnswer {
     pub outcome: QueueOutcome,
 }
 
-#[derive(Drop)]
+#[derive(Clone, Copy)]
 pub struct StatusFigures {
     pub customer: u64,
     pub balance: i64,
@@ -200,37 +200,37 @@ pub struct StatusFigures {
     pub carrier: u64,
 }
 
-#[derive(Drop)]
+#[derive(Clone, Copy)]
 pub enum StatusOutcome {
     Committed(StatusFigures),
     Refused(Refusal),
 }
 
 // A part of the book's numbers: where it starts, and how many they are.
-#[derive(Drop)]
+#[derive(Clone, Copy)]
 pub struct Part {
     pub from: u64,
     pub count: u64,
 }
 
-#[derive(Drop)]
+#[derive(Clone, Copy)]
 pub struct StockLevelFigures {
     pub count: u64,
 }
 
-#[derive(Drop)]
+#[derive(Clone, Copy)]
 pub enum StockLevelOutcome {
     Committed(StockLevelFigures),
     Refused(Refusal),
 }
 
-#[derive(Drop)]
+#[derive(Clone, Copy)]
 pub struct StockLevelAnswer {
     pub outcome: StockLevelOutcome,
 }
 
 // What a request of any kind is answered.
-#[derive(Drop)]
+#[derive(Clone, Copy)]
 pub enum RequestOutcome {
     NewOrder(NewOrderOutcome),
     Payment(PaymentOutcome),
@@ -240,7 +240,7 @@ pub enum RequestOutcome {
 }
 
 // Beside the outcome stand Delivery's ten order numbers, 0 for any other request, and the part of the book that a status shows, empty for any other.
-#[derive(Drop)]
+#[derive(Clone, Copy)]
 pub struct RequestAnswer {
     pub outcome: RequestOutcome,
     pub orders: [u64; 10],
@@ -248,7 +248,7 @@ pub struct RequestAnswer {
 }
 
 // A request as reading stores it: its form, and beside it the lines and the last name, of which those in use are part of the request.
-#[derive(Drop)]
+#[derive(Clone, Copy)]
 pub enum Form {
     NewOrder(NewOrder),
     Payment(Payment, Selection),
@@ -258,7 +258,7 @@ pub enum Form {
 }
 
 // The lines of a New-Order: line i is entry i of the three.
-#[derive(Drop)]
+#[derive(Clone, Copy)]
 pub struct Lines {
     pub count: u64,
     pub items: [u64; 15],
@@ -266,32 +266,32 @@ pub struct Lines {
     pub quantities: [u64; 15],
 }
 
-#[derive(Drop)]
+#[derive(Clone, Copy)]
 pub struct LastName {
     pub length: u64,
     pub bytes: [u8; 16],
 }
 
-#[derive(Drop)]
+#[derive(Clone, Copy)]
 pub enum ReadOutcome {
     Request(Form),
     Refused(Refusal),
 }
 
-#[derive(Drop)]
+#[derive(Clone, Copy)]
 pub struct ReadAnswer {
     pub outcome: ReadOutcome,
     pub lines: Lines,
     pub name: LastName,
 }
 
-#[derive(Drop)]
+#[derive(Clone, Copy)]
 pub enum WriteOutcome {
     Written(u64),
     Refused(Refusal),
 }
 
-#[derive(Drop)]
+#[derive(Clone, Copy)]
 pub struct WriteAnswer {
     pub outcome: WriteOutcome,
 }
