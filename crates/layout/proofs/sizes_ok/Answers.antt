@@ -3,4 +3,4 @@ use Rattle.layout.proofs.sizes_ok.Goals as goal
 
 pub returns : goal.returns
 unfolding size_tests
-returns c = rw (c.get-count.ensures, c.Numbers-of.ensures.0, c.name_bytes_of-bytes.ensures.0)
+returns c = rw (c.get-count.ensures, c.numbers_of-numbers.ensures.0, c.name_bytes_of-bytes.ensures.0)

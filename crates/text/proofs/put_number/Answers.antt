@@ -9,7 +9,7 @@ pub put_digits-requires : goal.put_digits-requires
 put_digits-requires c = simp length-set (omega (arith, c.requires))
 
 pub shape_of-line : goal.shape_of-line
-shape_of-line c = c.put_digits.auto.0 ∙ length-set c.args.line.now c.args.at 9
+shape_of-line c = c.put_digits.auto.line ∙ length-set c.args.line.now c.args.at 9
 
 pub returns : goal.returns
 returns c =

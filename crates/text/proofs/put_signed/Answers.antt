@@ -18,7 +18,7 @@ put_digits-requires c =
 
 pub shape_of-line-then-z-lt0 : goal.shape_of-line-then-z-lt0
 shape_of-line-then-z-lt0 c =
-    c.put_digits.auto.0 ∙ length-set (set c.args.line.now c.args.at 9) (c.args.at + 1) _ ∙ length-set c.args.line.now c.args.at 9
+    c.put_digits.auto.line ∙ length-set (set c.args.line.now c.args.at 9) (c.args.at + 1) _ ∙ length-set c.args.line.now c.args.at 9
 
 pub returns-then-z-lt0 : goal.returns-then-z-lt0
 returns-then-z-lt0 c =
@@ -29,7 +29,7 @@ put_digits-requires-2 c =
     let e : c.magnitude-n.result ≡ nat_abs c.args.z = rw (to_z-of_z c.ranges.z) at c.magnitude-n.ensures in let s = magnitude_few c.args.z c.magnitude-n.result c.ranges.z e in simp length-set (omega (arith, c.requires, s))
 
 pub shape_of-line : goal.shape_of-line
-shape_of-line c = c.put_digits-2.auto.0 ∙ length-set c.args.line.now c.args.at 9
+shape_of-line c = c.put_digits-2.auto.line ∙ length-set c.args.line.now c.args.at 9
 
 pub returns : goal.returns
 returns c =

@@ -15,12 +15,12 @@ loop-i-init c =
 
 pub put_number-p-requires : goal.put_number-p-requires
 put_number-p-requires c =
-    omega (arith, c.requires, c.loop-i-test.true, c.loop-i.invariant.1.1.0, c.loop-i.invariant.1.1.1.0, dec_most (get_or c.args.t3 c.loop-i.i 0))
+    omega (arith, c.requires, c.loop-i-test.true, c.loop-i.invariant.1.1.0, c.loop-i.invariant.1.1.1.0, dec_most (get_or c.args.numbers c.loop-i.i 0))
 
 pub loop-i-preserved : goal.loop-i-preserved
 loop-i-preserved c =
-    (search rules, (search rules, (search rules, (omega (arith, c.put_number-p.ensures.1, c.loop-i.invariant.1.1.1.0), number_step _ _ _ _ c.loop-i.i (positives c.args.t3) _ _ (omega (arith, c.loop-i-test.true, c.loop-i.invariant.1.0, length-map c.args.t3 pos)) c.loop-i.invariant.1.1.1.1 (positive_at _ _ _ _ c.loop-i.i c.args.t3 c.put_number-p.ensures.0)))))
+    (search rules, (search rules, (search rules, (omega (arith, c.put_number-p.ensures.1, c.loop-i.invariant.1.1.1.0), number_step _ _ _ _ c.loop-i.i (positives c.args.numbers) _ _ (omega (arith, c.loop-i-test.true, c.loop-i.invariant.1.0, length-map c.args.numbers pos)) c.loop-i.invariant.1.1.1.1 (positive_at _ _ _ _ c.loop-i.i c.args.numbers c.put_number-p.ensures.0)))))
 
 pub returns : goal.returns
 returns c =
-    (number-all _ _ _ _ c.loop-i.i (positives c.args.t3) (omega (arith, c.loop-i-test.false, c.loop-i.invariant.1.0, length-map c.args.t3 pos)) c.loop-i.invariant.1.1.1.1, omega (arith, c.loop-i.invariant.0, c.loop-i.invariant.1.1.1.0))
+    (number-all _ _ _ _ c.loop-i.i (positives c.args.numbers) (omega (arith, c.loop-i-test.false, c.loop-i.invariant.1.0, length-map c.args.numbers pos)) c.loop-i.invariant.1.1.1.1, omega (arith, c.loop-i.invariant.0, c.loop-i.invariant.1.1.1.0))

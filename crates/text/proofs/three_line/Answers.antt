@@ -9,10 +9,10 @@ put_three-p-requires c = simp length-set (omega (arith, c.requires))
 
 pub bounds-line-p : goal.bounds-line-p
 bounds-line-p c =
-    omega (arith, c.requires, c.put_three-p.ensures.1, c.put_three-p.auto.0, length-set c.args.line.now 0 c.args.x)
+    omega (arith, c.requires, c.put_three-p.ensures.1, c.put_three-p.auto.line, length-set c.args.line.now 0 c.args.x)
 
 pub shape_of-line : goal.shape_of-line
-shape_of-line c = simp length-set (c.put_three-p.auto.0 ∙ length-set c.args.line.now 0 c.args.x)
+shape_of-line c = simp length-set (c.put_three-p.auto.line ∙ length-set c.args.line.now 0 c.args.x)
 
 pub returns : goal.returns
 returns c = (whole-line _ _ _ _ _ c.put_three-p.ensures.0, omega (arith, c.put_three-p.ensures.1))
