@@ -17,7 +17,7 @@ fn keep(line: &mut [u8], n: usize, x: u8) -> usize
 }
 
 // The bytes of the line so far, the place after the bytes taken, and whether they end the line.
-#[derive(Drop)]
+#[derive(Clone, Copy)]
 pub struct Taken {
     pub len: usize,
     pub next: usize,

@@ -152,7 +152,7 @@ fn step(
 }
 
 // The bytes of the line so far, those used of the block, and whether the output still takes answers.
-#[derive(Drop)]
+#[derive(Clone, Copy)]
 struct Fed {
     len: usize,
     used: usize,

@@ -139,7 +139,7 @@ fn sizes_ok(b: &[i64], wide: u64, d: Dims) -> bool
 }
 
 // What reading the head finds: a book of these dimensions, or none.
-#[derive(Drop)]
+#[derive(Clone, Copy)]
 pub enum Head {
     Book(Dims),
     Damaged,
@@ -224,7 +224,7 @@ pub fn order_at(d: Dims, w: u64, k: u64, o: u64) -> u64
 }
 
 // Rows of orders that follow each other: where the first starts, and how many they are.
-#[derive(Drop)]
+#[derive(Clone, Copy)]
 pub struct Run {
     pub at: u64,
     pub count: u64,

@@ -15,7 +15,7 @@ use model::{
 use text::{Number, Step};
 
 // The numbers read from consecutive fields, and where the next field starts.
-#[derive(Drop)]
+#[derive(Clone, Copy)]
 pub struct Numbers {
     pub count: usize,
     pub next: usize,
@@ -23,7 +23,7 @@ pub struct Numbers {
 }
 
 // Who, in a field, and where the next field starts; where ok is false, none.
-#[derive(Drop)]
+#[derive(Clone, Copy)]
 pub struct WhoStep {
     pub ok: bool,
     pub next: usize,

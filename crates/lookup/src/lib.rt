@@ -45,7 +45,7 @@ fn comes_before(names: &[u8], base: u64, x: u64, y: u64) -> bool
 }
 
 // Two ends of a range of places.
-#[derive(Drop)]
+#[derive(Clone, Copy)]
 pub struct Places {
     pub low: u64,
     pub high: u64,

@@ -22,7 +22,7 @@ use layout::Head;
 use model::{Dims, Found, OrderStatus, Part, Refusal, Selection, StatusFigures, StatusOutcome};
 
 // The refusal of a status, and the customer and its last order where there is none; order 0 where it has no order.
-#[derive(Drop)]
+#[derive(Clone, Copy)]
 pub struct Seen {
     pub refusal: Refusal,
     pub customer: u64,
@@ -30,14 +30,14 @@ pub struct Seen {
 }
 
 // What a status answers: the outcome, and the part of the book that holds the shown lines.
-#[derive(Drop)]
+#[derive(Clone, Copy)]
 pub struct Shown {
     pub outcome: StatusOutcome,
     pub part: Part,
 }
 
 // A status in one answer: the outcome, and the shown lines as that part of the lent book.
-#[derive(Drop)]
+#[derive(Clone, Copy)]
 pub struct StatusAnswer<'a> {
     pub outcome: StatusOutcome,
     pub lines: &'a [i64],

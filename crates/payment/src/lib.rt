@@ -21,14 +21,14 @@ use model::{
 };
 
 // The refusal of a payment, and who pays where there is none.
-#[derive(Drop)]
+#[derive(Clone, Copy)]
 pub struct Payer {
     pub refusal: Refusal,
     pub customer: u64,
 }
 
 // The numbers that a payment changes: where they stand, and what they become; and whether the customer's credit is bad.
-#[derive(Drop)]
+#[derive(Clone, Copy)]
 pub struct Plan {
     pub warehouse: u64,
     pub warehouseytd: u64,

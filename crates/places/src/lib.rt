@@ -9,7 +9,7 @@ ghost use Rattle.places.specs.Places.{spot_tests, Spotted, places_of, places_out
 use model::Dims;
 
 // One row of each kind: item and warehouse are the stock's as well, and the slot is an order's.
-#[derive(Drop)]
+#[derive(Clone, Copy)]
 pub struct Spot {
     pub warehouse: u64,
     pub district: u64,

@@ -16,14 +16,14 @@ use model::{
 };
 
 // The waiting list after a queuing call, and what it answers.
-#[derive(Drop)]
+#[derive(Clone, Copy)]
 pub struct Joined {
     pub queue: Queue,
     pub answer: QueueAnswer,
 }
 
 // The waiting list after a run, and what it answers.
-#[derive(Drop)]
+#[derive(Clone, Copy)]
 pub struct Ran {
     pub queue: Queue,
     pub answer: DeliveryAnswer,

@@ -7,14 +7,14 @@ ghost use Rattle.text.specs.Writing.{Wrote};
 ghost use Rattle.text.specs.Fields.{FieldEnd, number_read, StepSays};
 
 // What a field holds: a number, or none.
-#[derive(Drop)]
+#[derive(Clone, Copy)]
 pub enum Number {
     Value(u64),
     Bad,
 }
 
 // A number in a field and where the next field starts, or none.
-#[derive(Drop)]
+#[derive(Clone, Copy)]
 pub enum Step {
     Value(u64, usize),
     Bad,
