@@ -10,7 +10,7 @@ use Rattle.model.specs.Layout.{numbers, name_bytes, shapes, place}
 use Rattle.model.specs.Head.{dims_tests}
 use Rattle.model.specs.Rows.{warehouse_row, district_row, customer_row, price, stock_row, slot, order_row, history_row}
 use Rattle.model.specs.Names.{name_place}
-use Rattle.model.proofs.TestLaws.{and_left, and_right, every-each, in_range}
+use Rattle.model.proofs.TestLaws.{and_left, and_right, every-each, in_range as in_range_lem}
 use Rattle.model.proofs.Fields.{Dimensioned, dims_are}
 use Rattle.places.specs.declared.Spot.{Spot}
 use Rattle.places.specs.Places.{spot_tests, Spotted, slot_row, places_of, in_range, places_out}
@@ -26,12 +26,12 @@ module _ (d : Dims) (s : Spot) where
   spotted e =
       let h = every-each (spot_tests d s) e in
       record {
-        warehouse_in = in_range _ _ h.0;
-        district_in = in_range _ _ h.1.0;
-        customer_in = in_range _ _ h.1.1.0;
-        item_in = in_range _ _ h.1.1.1.0;
-        slot_in = in_range _ _ h.1.1.1.1.0;
-        history_in = in_range _ _ h.1.1.1.1.1.0;
+        warehouse_in = in_range_lem _ _ h.0;
+        district_in = in_range_lem _ _ h.1.0;
+        customer_in = in_range_lem _ _ h.1.1.0;
+        item_in = in_range_lem _ _ h.1.1.1.0;
+        slot_in = in_range_lem _ _ h.1.1.1.1.0;
+        history_in = in_range_lem _ _ h.1.1.1.1.1.0;
       }
 
   pub ready : in_range d s ≡ true → Dimensioned d × Spotted d s

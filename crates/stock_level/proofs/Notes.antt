@@ -109,8 +109,8 @@ module _ (d : Dims) (b : List ℤ) (q : StockLevel) (v : Ready d b q) (next firs
     order_in : (i : ℕ) → i < next - first → OrderIn d b w k (first + i)
     order_in i h = v.used.orders (first + i) (omega (arith, ef, en, ap window_first en)) (omega (arith, en))
 
-    item_in : (i j : ℕ) → i < next - first → R (nat (row_of (shapes d) b (order_row d w k (first + i)) 3)) j → R d.items (nat (line (row_of (shapes d) b (order_row d w k (first + i))) j 0))
-    item_in i j h s = let l = (order_in i h).lines j s in record { lo = l.item_low; hi = l.item_high }
+    item_in_lem : (i j : ℕ) → i < next - first → R (nat (row_of (shapes d) b (order_row d w k (first + i)) 3)) j → R d.items (nat (line (row_of (shapes d) b (order_row d w k (first + i))) j 0))
+    item_in_lem i j h s = let l = (order_in i h).lines j s in record { lo = l.item_low; hi = l.item_high }
 
     -- the stock row of an item
     at-stock : (x : ℕ) → R d.items x → (stock + 4 * (x - 1) ≡ place (shapes d) (on_hand w x)) × (stock + 4 * x ≤ length b)
