@@ -126,7 +126,7 @@ module _ (d : Dims) (b : List ℤ) (q : StockLevel) (v : Ready d b q) (next firs
         let h : i < next - first = omega (arith, c, r.count) in
         let o = row_of (shapes d) b (order_row d w k (first + i)) in
         let t : (nat (o 3) ≤ 15) × ((j : ℕ) → R (nat (o 3)) j → ItemReads b stock (nat (line o j 0))) =
-        ((order_in i h).count_high, λ j s. record { low = (item_in i j h s).lo; high = (at-stock (nat (line o j 0)) (item_in i j h s)).1 }) in
+        ((order_in i h).count_high, λ j s. record { low = (item_in_lem i j h s).lo; high = (at-stock (nat (line o j 0)) (item_in_lem i j h s)).1 }) in
         let u = subst (λ (f : ℕ → ℤ). (nat (f 3) ≤ 15) × ((j : ℕ) → R (nat (f 3)) j → ItemReads b stock (nat (line f j 0)))) (sym (order_is i h)) t in
         record { ends = omega (arith, r.ends i h, v.booked.long); lines = u.0; items = u.1 }
 
@@ -148,7 +148,7 @@ module _ (d : Dims) (b : List ℤ) (q : StockLevel) (v : Ready d b q) (next firs
         let o = row_of (shapes d) b (order_row d w k (first + n)) in
         in_append (λ x. low_at b stock threshold x ≡ is_low d b w threshold x) (window_items d b w k first n) (up_to (nat (o 3)) (λ j. nat (line o j 0)))
         (lows threshold n (omega arith))
-        (in_up (λ x. low_at b stock threshold x ≡ is_low d b w threshold x) (nat (o 3)) (λ j. nat (line o j 0)) (λ j s. low-is threshold (nat (line o j 0)) (item_in n j (omega arith) s)))
+        (in_up (λ x. low_at b stock threshold x ≡ is_low d b w threshold x) (nat (o 3)) (λ j. nat (line o j 0)) (λ j s. low-is threshold (nat (line o j 0)) (item_in_lem n j (omega arith) s)))
 
     pub count_is : (l : List ℕ) (n : ℕ) → n ≤ length l → take n l ≡ note_all (low_at b stock q.threshold) [] (items_in b run run.count) → n ≡ low_items d b q
     unfolding low_items window_count
