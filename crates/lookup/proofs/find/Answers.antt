@@ -33,4 +33,4 @@ returns-then-n-eq0 c =
 pub returns : goal.returns
 unfolding found
 returns c =
-    ap Customer c.wide.ensures ∙ rw (le-leb _ _ c.if-name-lt1.false, le-leb _ _ c.if-name-gt16.false, ← c.pad.ensures) (taken_at c.gather-n.new.1.1.1.1.0 _ c.gather-n.result (c.gather-n.ensures.1 ∙ namesakes-from _ _ _ _ c.name_base-base.ensures.0 _) (search rules) (search rules))
+    ap Customer c.wide.ensures ∙ rw (le-leb _ _ c.if-name-lt1.false, le-leb _ _ c.if-name-gt16.false, ← c.pad.ensures) (taken_at c.gather-n.new.list _ c.gather-n.result (c.gather-n.ensures.1 ∙ namesakes-from _ _ _ _ c.name_base-base.ensures.0 _) (search rules) (search rules))

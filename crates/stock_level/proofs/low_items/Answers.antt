@@ -19,4 +19,4 @@ note_run-requires c =
 pub returns : goal.returns
 returns c =
     let f = few c.args.d c.args.b.now c.args.q (c.requires) c.next_order-next.result c.window_first-first.result c.next_order-next.ensures c.window_first-first.ensures in
-    count_is c.args.d c.args.b.now c.args.q (c.requires) c.next_order-next.result c.window_first-first.result c.next_order-next.ensures c.window_first-first.ensures c.orders_run-window.ensures c.stock_at-stock.result c.stock_at-stock.ensures.0 c.note_run.new.1.1.1.0 c.note_run.result (omega (arith, c.note_run.ensures.0, c.orders_run-window.ensures.count, f)) c.note_run.ensures.1
+    count_is c.args.d c.args.b.now c.args.q (c.requires) c.next_order-next.result c.window_first-first.result c.next_order-next.ensures c.window_first-first.ensures c.orders_run-window.ensures c.stock_at-stock.result c.stock_at-stock.ensures.0 c.note_run.new.list c.note_run.result (omega (arith, c.note_run.ensures.0, c.orders_run-window.ensures.count, f)) c.note_run.ensures.1

@@ -1,3 +1,4 @@
+use mathlib.Core.List.{[]}
 use lib.ListN.{length, take}
 use Rattle.stock_level.specs.Notes.{note_all, low_at, items_in}
 use Prim.Native.Nat.{◌≤◌, ◌*◌, ◌-◌}
