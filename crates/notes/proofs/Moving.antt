@@ -6,38 +6,27 @@ use Prim.Native.Nat.{ℕ, ◌+◌, ◌*◌, ◌-◌, ◌≤◌}
 use native.Mathlib.Nat.{zero-add}
 use native.Mathlib.Omega.{arith}
 use lib.ListN.{length, take, drop, length-drop, drop_of_length-le}
-use lib.Seq.{take_all, length-take-le, length-sets, take-append-add, drop-drop}
+use lib.Seq.{length-sets, take-append-add, drop-drop}
 use Rattle.model.specs.declared.Dims.{Dims}
 use Rattle.model.specs.Layout.{place, per_customer, of_customer}
 use Rattle.model.specs.Note.{note_place, text_at, moved, replaced}
 use Rattle.text.specs.Writing.{Wrote}
 use Rattle.text.proofs.Putting.{front}
 
--- a list copied over one as long
-copied : (s t z : List ℕ) → length z ≤ length s → t ≡ take (length s) s ++ drop (length s) z → t ≡ s
-copied s t z h e = e ∙ ap (λ (x : List ℕ). take (length s) s ++ x) (drop_of_length-le z h) ∙ append-nil (take (length s) s) ∙ take_all (length s) s (omega arith)
-
 -- text t, with the note written over its front to m, its copy old, and what comes back behind the note
-module _ (t m z old back note : List ℕ) (n : ℕ) (long : length t ≡ 500) (few : length note ≤ 126) (w : Wrote t m 0 n note) where
+module _ (t m old back note : List ℕ) (n : ℕ) (long : length t ≡ 500) (few : length note ≤ 126) (w : Wrote t m 0 n note) where
   long-m : length m ≡ 500
   long-m = ap length w.same ∙ length-sets t 0 note ∙ long
 
   n-is : n ≡ length note
   n-is = w.place ∙ zero-add (length note)
 
-  pub moved_back : length z ≡ 500 → old ≡ take (length t) t ++ drop (length t) z
-      → back ≡ take (length (take (500 - n - 0) old)) (take (500 - n - 0) old) ++ drop (length (take (500 - n - 0) old)) (take (500 - n) (drop n m))
-      → take n m ++ (back ++ drop (500 - n) (drop n m)) ≡ moved note t
+  pub moved_back : old ≡ t → back ≡ take (500 - n - 0) old → take n m ++ (back ++ drop (500 - n) (drop n m)) ≡ moved note t
   unfolding moved
-  moved_back hz eo eb =
-      let s = take (500 - n - 0) old in
-      let same : old ≡ t = copied t old z (omega (arith, long)) eo in
-      let ls : length s ≡ 500 - n - 0 = length-take-le (500 - n - 0) old (omega (arith, ap length same)) in
-      let ld : length (take (500 - n) (drop n m)) ≡ 500 - n = length-take-le (500 - n) (drop n m) (omega (arith, length-drop n m, long-m)) in
-      let back_is : back ≡ s = copied s back (take (500 - n) (drop n m)) (omega arith) eb in
+  moved_back same eb =
       let none : drop (500 - n) (drop n m) ≡ [] = drop_of_length-le (drop n m) {i = 500 - n} (omega (arith, length-drop n m, long-m)) in
       let five : length note + (500 - n - 0) ≡ 500 = omega (arith, n-is) in
-      rw (front t m note n w (omega arith), none, append-nil back, back_is, same)
+      rw (front t m note n w (omega arith), none, append-nil back, eb, same)
       (sym (take-append-add note t (500 - n - 0)) ∙ ap (λ (i : ℕ). take i (note ++ t)) five)
 
 -- a customer's m bytes from place 500 · p on

@@ -68,9 +68,9 @@ fn put_note(text: &mut [u8], q: Payment, c: u64)
     ensures { text.new ≡ moved (note_of q c) text.old }
 {
     let mut old = [0u8; 500];
-    bytes::copy(text, &mut old);
+    old.copy_from_slice(text);
     let n = write_note(text, q, c);
-    bytes::copy(&old[0..500 - n], &mut text[n..500]);
+    text[n..500].copy_from_slice(&old[0..500 - n]);
 }
 
 // A payment by customer c noted in its text.
