@@ -1,6 +1,8 @@
 // The program on further lines. Random request lines, good and damaged.
 #![tactic(auto)]
 
-fn main() {
-    desk::run();
+use std::process::ExitCode;
+
+fn main(rt: HostRuntime) -> ExitCode {
+    desk::status(desk::run(&rt, &rt.stdout()))
 }

@@ -1,7 +1,8 @@
 // The program's desk: its book, one request line answered, and standard input answered line by line.
 #![tactic(auto)]
 
-ghost use Rattle.std.specs.Prelude.{◌≡◌, ◌≤◌, pos, length, take, replicate};
+ghost use Rattle.std.specs.Prelude.{◌≡◌, ◌≤◌, pos, length, take, replicate, if◌then◌else◌};
+ghost use Rattle.std.specs.Process.{exit_status};
 ghost use Rattle.model.specs.Request.{lent};
 ghost use Rattle.model.proofs.Listing.{program_book, program_names, program_last_lem, program_notes, program_topup};
 ghost use Rattle.blocks.specs.Cutting.{Started};
@@ -10,6 +11,9 @@ ghost use Rattle.desk.specs.Input.{FedIn, Served};
 ghost use Rattle.desk.specs.Filling.{head_to, districts_to, prices_to, stocks_to, two_names};
 
 use model::{OpeningOutcome, ReadOutcome};
+use std::os::fd::AsFd;
+use std::process::ExitCode;
+use std::rt::{Clock, Files};
 
 // Taxes, next order numbers and discounts of the ten districts.
 fn fill_districts(b: &mut [i64])
@@ -161,6 +165,7 @@ struct Fed {
 
 // A block of input: each line that it ends is answered, until the output takes no more.
 fn feed(
+    rt: &(impl Print + Eprint + Clock),
     b: &mut [i64],
     names: &[u8],
     last: &mut [i64],
@@ -192,7 +197,7 @@ fn feed(
         }
         let m = step(b, names, last, notes, topup, &line[0..n], &mut out);
         n = 0;
-        if !stdio::put(&out[0..m]) {
+        if !stdio::put(rt, &out[0..m]) {
             return Fed {
                 len: n,
                 used: at,
@@ -204,7 +209,14 @@ fn feed(
 
 // Standard input answered line by line on the program's book, until it ends, cannot be read, or the output takes no more; at its end a last line without its own
 // is answered too. True where all was read and every answer taken.
-fn serve(b: &mut [i64], names: &[u8], last: &mut [i64], notes: &mut [u8], topup: &[i64]) -> bool
+fn serve(
+    rt: &(impl Input + Print + Eprint + Clock),
+    b: &mut [i64],
+    names: &[u8],
+    last: &mut [i64],
+    notes: &mut [u8],
+    topup: &[i64],
+) -> bool
     requires { (b.old ≡ program_book) × ((names.now ≡ program_names) × ((last.old ≡ program_last_lem) × ((notes.old ≡ program_notes) × (topup.now ≡ program_topup)))) }
     ensures { Served (lent b.old names.now last.old notes.old topup.now)
         (lent b.new names.now last.new notes.new topup.now) }
@@ -214,7 +226,7 @@ fn serve(b: &mut [i64], names: &[u8], last: &mut [i64], notes: &mut [u8], topup:
     let mut len: usize = 0;
     let mut turns = u64::MAX;
     while turns > 0 {
-        let got = stdio::get(&mut block);
+        let got = stdio::get(rt, &mut block);
         if got.failed {
             return false;
         }
@@ -223,11 +235,21 @@ fn serve(b: &mut [i64], names: &[u8], last: &mut [i64], notes: &mut [u8], topup:
             if 0 < len {
                 let mut out = [0u8; 2048];
                 let m = step(b, names, last, notes, topup, &line[0..len], &mut out);
-                return stdio::put(&out[0..m]);
+                return stdio::put(rt, &out[0..m]);
             }
             return true;
         }
-        let fed = feed(b, names, last, notes, topup, &mut line, len, &block[0..n]);
+        let fed = feed(
+            rt,
+            b,
+            names,
+            last,
+            notes,
+            topup,
+            &mut line,
+            len,
+            &block[0..n],
+        );
         if fed.open {
             len = fed.len;
         } else {
@@ -238,10 +260,17 @@ fn serve(b: &mut [i64], names: &[u8], last: &mut [i64], notes: &mut [u8], topup:
     false
 }
 
-// The program: its book, opened, with last orders all 0, texts all spaces and the table 10, 91, and standard input answered on it; where all went well the output is closed. True, for
-// opening accepts the book.
-pub fn run() -> bool
-    ensures { Ran program_book program_names program_topup result }
+// Whether opening accepted the book, and whether all input was read, every answer taken and the output closed.
+#[derive(Drop)]
+pub struct Ended {
+    pub opened: bool,
+    pub whole: bool,
+}
+
+// The program: its book, opened, with last orders all 0, texts all spaces and the table 10, 91, and standard input answered on it; where all went well the output is closed. Opened is
+// true, for opening accepts the book.
+pub fn run(rt: &(impl Input + Print + Eprint + Clock + Files), out: &impl AsFd) -> Ended
+    ensures { Ran program_book program_names program_topup result.opened }
 {
     let mut b = [0i64; 3479];
     let mut names = [0u8; 640];
@@ -254,11 +283,29 @@ pub fn run() -> bool
     let o = a.outcome;
     match o {
         OpeningOutcome::Accepted => {
-            if serve(&mut b, &names, &mut last, &mut notes, &topup) {
-                stdio::close();
+            let mut whole = false;
+            if serve(rt, &mut b, &names, &mut last, &mut notes, &topup) {
+                whole = stdio::close(rt, out) == 0;
             }
-            true
+            Ended {
+                opened: true,
+                whole,
+            }
         }
-        OpeningOutcome::Refused(_) => false,
+        OpeningOutcome::Refused(_) => Ended {
+            opened: false,
+            whole: false,
+        },
+    }
+}
+
+// The program's exit status: 0 only where all went well.
+pub fn status(ended: Ended) -> ExitCode
+    ensures { exit_status result ≡ (if ended.whole then 0 else 1) }
+{
+    if ended.whole {
+        ExitCode::SUCCESS
+    } else {
+        ExitCode::FAILURE
     }
 }
