@@ -1,4 +1,5 @@
 use Rattle.lookup.proofs.Inserting.{inserted}
+use Rattle.lookup.specs.Listed.{before_from}
 use Prim.Native.Nat.{◌-◌}
 use mathlib.Core.Path.{◌∙◌}
 use native.Mathlib.Omega.{arith}
@@ -11,4 +12,4 @@ pub overflow_cast-c : goal.overflow_cast-c
 overflow_cast-c c = omega (arith, c.requires)
 
 pub returns : goal.returns
-returns c = c.put_in.ensures ∙ inserted _ _ _ _ _ c.place_of-p.ensures.1 c.place_of-p.ensures.0
+returns c = c.put_in.ensures ∙ inserted (before_from c.args.names.now c.args.base) _ _ _ _ c.place_of-p.ensures.1 c.place_of-p.ensures.0
