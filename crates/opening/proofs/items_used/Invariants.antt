@@ -1,0 +1,12 @@
+use Rattle.model.specs.Used.{item_used}
+use Rattle.model.specs.Tests.{all_to}
+use mathlib.Core.Bool.{true}
+use Prim.Native.Nat.{◌≤◌, ◌-◌}
+use mathlib.Core.Path.{◌≡◌}
+use Rattle.opening.proofs.items_used.Given as goal
+
+abbrev pub invariant-loop-i : goal.invariant-loop-i
+invariant-loop-i l = (l.i ≤ l.d.items) × (all_to l.i (item_used l.d l.b) ≡ true)
+
+abbrev pub decreases-loop-i : goal.decreases-loop-i
+decreases-loop-i l = l.d.items - l.i
