@@ -1,5 +1,4 @@
 use Rattle.lookup.specs.Listed.{before_from}
-use Prim.Native.Nat.{◌-◌}
 use Rattle.lookup.proofs.comes_before.Goals as goal
 
 pub returns-in-Smaller : goal.returns-in-Smaller

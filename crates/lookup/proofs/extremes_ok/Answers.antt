@@ -1,6 +1,5 @@
 use Rattle.lookup.proofs.Extremes.{place-step, place_end}
 use Rattle.model.proofs.TestLaws.{all_none}
-use Prim.Native.Nat.{◌-◌}
 use mathlib.Core.Path.{sym}
 use borrow.Author.Rules.{rules}
 use Rattle.lookup.proofs.extremes_ok.Goals as goal

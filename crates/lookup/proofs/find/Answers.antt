@@ -4,7 +4,6 @@ use Rattle.lookup.proofs.Inserting.{taken_none, taken_at}
 use Rattle.model.specs.Names.{found}
 use Rattle.model.specs.declared.Found.TheVariants.{Customer}
 use borrow.Author.Tests.{le-leb, lt-leb}
-use Prim.Native.Nat.{◌-◌}
 use lib.ListN.{length}
 use mathlib.Core.Path.{sym, ap, ◌∙◌}
 use borrow.Author.Rules.{rules}

@@ -4,9 +4,8 @@ use Rattle.lookup.proofs.Bridge.{listed}
 use Rattle.lookup.proofs.Skipping.{passing-by}
 use Rattle.model.proofs.Ordering.{sorted-step}
 use Rattle.lookup.specs.Listed.{named_from}
-use Prim.Native.Nat.{◌-◌, ◌+◌}
+use Prim.Native.Nat.{◌+◌}
 use mathlib.Core.Path.{◌≡◌, refl}
-use mathlib.Core.Bool.{true}
 use borrow.Author.Rules.{rules}
 use Rattle.lookup.proofs.gather.Goals as goal
 

@@ -1,6 +1,5 @@
 use Rattle.lookup.proofs.Inserting.{inserted}
 use Rattle.lookup.specs.Listed.{before_from}
-use Prim.Native.Nat.{◌-◌}
 use mathlib.Core.Path.{◌∙◌}
 use native.Mathlib.Omega.{arith}
 use Rattle.lookup.proofs.insert_in.Goals as goal

@@ -1,6 +1,5 @@
 use Rattle.lookup.proofs.Bytes.{named_by}
 use Rattle.model.specs.Names.{is_equal}
-use Prim.Native.Nat.{◌-◌}
 use mathlib.Core.Path.{sym, ap, ◌∙◌}
 use Rattle.lookup.proofs.is_named.Goals as goal
 

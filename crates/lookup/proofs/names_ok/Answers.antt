@@ -2,7 +2,6 @@ use Rattle.lookup.specs.Listed.{name_ok_from}
 use Rattle.lookup.proofs.Extremes.{kept-none, kept_step, extremes_all}
 use Rattle.model.proofs.ListLaws.{at_end}
 use Rattle.model.specs.Tests.{all_to}
-use Prim.Native.Nat.{◌-◌}
 use mathlib.Core.Path.{◌∙◌}
 use borrow.Author.Rules.{rules}
 use Rattle.lookup.proofs.names_ok.Goals as goal

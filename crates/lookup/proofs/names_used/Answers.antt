@@ -1,5 +1,4 @@
 use Rattle.lookup.proofs.Bridge.{names-from}
-use Prim.Native.Nat.{◌-◌}
 use mathlib.Core.Path.{◌∙◌}
 use Rattle.lookup.proofs.names_used.Goals as goal
 

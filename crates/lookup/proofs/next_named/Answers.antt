@@ -1,7 +1,6 @@
 use Rattle.lookup.specs.Listed.{named_from}
 use Rattle.lookup.proofs.Skipping.{passed_none, passed-step}
 use mathlib.Core.Path.{sym, ◌∙◌}
-use Prim.Native.Nat.{◌-◌}
 use native.Mathlib.Omega.{arith}
 use borrow.Author.Rules.{rules}
 use Rattle.lookup.proofs.next_named.Goals as goal

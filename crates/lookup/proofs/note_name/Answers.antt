@@ -1,6 +1,4 @@
-use Rattle.lookup.specs.Extremes.{least, most}
 use Rattle.rows.proofs.Rewriting.{rewriting_none, rewriting_step, rewriting_end}
-use Prim.Native.Nat.{◌-◌}
 use borrow.Author.Rules.{rules}
 use Rattle.lookup.proofs.note_name.Goals as goal
 

@@ -1,7 +1,6 @@
 use lib.Seq.{paste-zero}
 use lib.ListN.{replicate, length-set}
 use Rattle.lookup.proofs.Bytes.{pad_step, pad_whole}
-use Prim.Native.Nat.{◌-◌}
 use mathlib.Core.Path.{◌∙◌}
 use borrow.Author.Rules.{rules}
 use Rattle.lookup.proofs.pad.Goals as goal

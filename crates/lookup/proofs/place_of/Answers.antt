@@ -1,6 +1,5 @@
 use native.Mathlib.Nat.{le_antisymm}
 use Rattle.lookup.proofs.Inserting.{place-within}
-use Prim.Native.Nat.{◌-◌}
 use native.Mathlib.Omega.{arith}
 use borrow.Author.Rules.{rules}
 use Rattle.lookup.proofs.place_of.Goals as goal

@@ -1,6 +1,5 @@
 use lib.ListN.{length-set}
 use Rattle.lookup.proofs.Inserting.{carry_step, carry_end, carry_rest}
-use Prim.Native.Nat.{◌-◌}
 use mathlib.Core.Path.{◌∙◌}
 use borrow.Author.Rules.{rules}
 use Rattle.lookup.proofs.put_in.Goals as goal

@@ -1,6 +1,6 @@
 use mathlib.Core.List.{◌++◌, ◌∷◌}
 use lib.ListN.{length, take, drop}
-use Prim.Native.Nat.{◌≤◌, ◌+◌, ◌-◌}
+use Prim.Native.Nat.{◌≤◌, ◌-◌}
 use mathlib.Core.Path.{◌≡◌}
 use Rattle.lookup.proofs.put_in.Given as goal
 

@@ -1,4 +1,3 @@
-use Prim.Native.Nat.{◌-◌}
 use Rattle.lookup.proofs.who_ok.Goals as goal
 
 pub returns-in-Number : goal.returns-in-Number
