@@ -283,7 +283,7 @@ pub fn order_status<'a>(
     name: &[u8],
 ) -> StatusAnswer<'a>
     ensures { StatusCall b.now names.now last.now q (who_of who name.now)
-        result.outcome result.lines.now b.entry.ref_ptr result.lines.ptr }
+        result.outcome result.lines.now b.entry.ref_ptr result.lines.ref_ptr }
 {
     let s = status_shown(b, names, last, q, who, name);
     let lines = lines_in(b, s.part);
