@@ -1,7 +1,6 @@
 use Rattle.rows.proofs.RowTests.{shaped-booked}
 use Rattle.model.specs.Opening.{book_new}
 use borrow.Author.Tests.{not-true, not-false, eq-eqb, ne_eqb}
-use Prim.Native.Nat.{◌-◌}
 use mathlib.Core.Path.{◌≡◌}
 use native.Mathlib.Omega.{arith}
 use Rattle.std.proofs.Common.{ap}

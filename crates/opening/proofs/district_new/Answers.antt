@@ -2,7 +2,6 @@ use Rattle.opening.proofs.Runs.{district-row}
 use Rattle.rows.proofs.RowTests.{shaped-booked}
 use Rattle.model.specs.Opening.{district_new}
 use borrow.Author.Tests.{not-true, not-false}
-use Prim.Native.Nat.{◌-◌}
 use native.Mathlib.Omega.{arith}
 use Rattle.std.proofs.Common.{ap}
 use mathlib.Core.Bool.{not}

@@ -1,8 +1,6 @@
 use Rattle.model.specs.Opening.{district_new}
 use Rattle.rows.proofs.Loops.{all_left, all_again, all_end}
 use Rattle.model.proofs.TestLaws.{all_none}
-use mathlib.Core.Bool.{true}
-use Prim.Native.Nat.{◌-◌}
 use native.Mathlib.Omega.{arith}
 use borrow.Author.Rules.{rules}
 use Rattle.std.proofs.Common.{ap}

@@ -3,8 +3,6 @@ use Rattle.opening.specs.New.{customer_new}
 use Rattle.rows.proofs.Runs.{customer-run}
 use Rattle.rows.proofs.Loops.{all_left, all_again, all_end}
 use Rattle.model.proofs.TestLaws.{all_none}
-use mathlib.Core.Bool.{true}
-use Prim.Native.Nat.{◌-◌}
 use native.Mathlib.Omega.{arith}
 use borrow.Author.Rules.{rules}
 use Rattle.std.proofs.Common.{ap}

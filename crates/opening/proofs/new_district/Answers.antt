@@ -1,7 +1,6 @@
 use Rattle.model.specs.Numbers.{cell}
 use Rattle.model.specs.Store.{from}
 use Rattle.model.specs.Opening.{new_district}
-use Prim.Native.Nat.{◌-◌}
 use Rattle.opening.proofs.new_district.Goals as goal
 
 pub returns : goal.returns
