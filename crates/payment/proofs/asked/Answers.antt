@@ -1,7 +1,6 @@
 use Rattle.model.proofs.TestLaws.{and_same, turned_away, passed_on}
 use Rattle.model.proofs.TestLaws.{turned_away, passed_on}
 use Rattle.model.specs.Payment.{pay_asked}
-use Prim.Native.Nat.{◌-◌}
 use Rattle.std.proofs.Common.{ap}
 use mathlib.Core.Bool.{not}
 use Rattle.payment.proofs.asked.Goals as goal

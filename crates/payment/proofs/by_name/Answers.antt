@@ -2,7 +2,6 @@ use borrow.Author.Tests.{not-true, not-false}
 use Rattle.model.specs.Payment.{pay_used, payer}
 use Rattle.model.specs.Used.{who_used}
 use Rattle.model.specs.Names.{customer_of}
-use Prim.Native.Nat.{◌-◌}
 use mathlib.Core.Path.{◌∙◌}
 use Rattle.std.proofs.Common.{ap}
 use mathlib.Core.Bool.{not}

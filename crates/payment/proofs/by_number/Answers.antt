@@ -6,7 +6,6 @@ use mathlib.Core.List.{[]}
 use Rattle.model.specs.declared.Selection.TheVariants.{Number}
 use Rattle.lookup.proofs.Who.{number_in}
 use Rattle.rows.proofs.RowTests.{shaped-booked}
-use Prim.Native.Nat.{◌-◌}
 use mathlib.Core.Path.{refl, ◌∙◌}
 use Rattle.std.proofs.Common.{ap}
 use mathlib.Core.Bool.{not}

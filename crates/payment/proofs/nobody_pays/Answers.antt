@@ -1,4 +1,3 @@
-use Prim.Native.Nat.{◌-◌}
 use Rattle.payment.proofs.nobody_pays.Goals as goal
 
 pub returns : goal.returns

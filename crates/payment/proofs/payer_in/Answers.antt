@@ -5,7 +5,6 @@ use Rattle.model.proofs.TestLaws.{fault_then, fault-first}
 use Rattle.model.specs.Payment.{pay_asked, pay_used, payer}
 use Rattle.model.specs.declared.Refusal.{Refusal}
 use Rattle.model.specs.Names.{who_of}
-use Prim.Native.Nat.{◌-◌}
 use mathlib.Core.Path.{sym, ap, ◌∙◌}
 use Rattle.payment.proofs.payer_in.Goals as goal
 

@@ -8,7 +8,7 @@ use Rattle.model.specs.Payment.{is_bad}
 use Rattle.payment.specs.Plan.{plan_of}
 use Rattle.cells.proofs.Signed.{held}
 use mathlib.Core.Path.{refl}
-use Prim.Native.Nat.{◌≤◌, ◌<◌, ◌-◌}
+use Prim.Native.Nat.{◌≤◌, ◌<◌}
 use native.Mathlib.Omega.{arith}
 use borrow.Author.Rules.{rules}
 use Rattle.payment.proofs.plan_of.Goals as goal

@@ -1,4 +1,3 @@
-use Prim.Native.Nat.{◌-◌}
 use Rattle.payment.proofs.store_history.Goals as goal
 
 pub returns : goal.returns

@@ -1,6 +1,5 @@
 use Rattle.payment.specs.Plan.{store_plan}
 use Rattle.cells.proofs.Signed.{held}
-use Prim.Native.Nat.{◌-◌}
 use Rattle.payment.proofs.store_plan.Goals as goal
 
 pub returns : goal.returns

@@ -3,7 +3,6 @@ use Rattle.model.proofs.PaymentFacts.{PayAsked}
 use Rattle.model.specs.declared.Selection.{Selection}
 use Rattle.model.specs.Names.{who_of}
 use Rattle.payment.proofs.Joint.{used_none, used-rest}
-use Prim.Native.Nat.{◌-◌}
 use mathlib.Core.Path.{◌∙◌}
 use Rattle.std.proofs.Common.{ap}
 use mathlib.Core.Bool.{not}

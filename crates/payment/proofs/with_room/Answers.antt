@@ -3,7 +3,6 @@ use Rattle.model.specs.Payment.{pay_used}
 use Rattle.model.proofs.Fields.{head-num}
 use mathlib.Core.Bool.{true, false}
 use lib.Dec.{ltb}
-use Prim.Native.Nat.{◌-◌}
 use mathlib.Core.Path.{◌≡◌, ◌∙◌}
 use native.Mathlib.Omega.{arith}
 use Rattle.payment.proofs.with_room.Goals as goal
