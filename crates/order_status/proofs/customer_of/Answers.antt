@@ -1,5 +1,4 @@
 use Rattle.model.specs.Names.{customer_of}
-use Prim.Native.Nat.{◌-◌}
 use Rattle.order_status.proofs.customer_of.Goals as goal
 
 pub returns-in-Number : goal.returns-in-Number

@@ -1,7 +1,6 @@
 use mathlib.Core.Path.{refl}
 use Rattle.cells.proofs.Signed.{held}
 use Rattle.order_status.proofs.Stages.{shown_none, shown_some}
-use Prim.Native.Nat.{◌-◌}
 use mathlib.Core.Path.{refl}
 use Rattle.order_status.proofs.figures_of.Goals as goal
 

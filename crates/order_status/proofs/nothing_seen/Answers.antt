@@ -1,4 +1,3 @@
-use Prim.Native.Nat.{◌-◌}
 use Rattle.order_status.proofs.nothing_seen.Goals as goal
 
 pub returns : goal.returns

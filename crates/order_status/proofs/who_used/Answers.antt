@@ -1,6 +1,5 @@
 use Rattle.lookup.proofs.Who.{number_in}
 use Rattle.model.specs.Used.{who_used}
-use Prim.Native.Nat.{◌-◌}
 use Rattle.order_status.proofs.who_used.Goals as goal
 
 pub customer_used-requires : goal.customer_used-requires
