@@ -1,3 +1,2 @@
 -- The laws of the crate, and what its walks share.
 pub mod Steps
-pub mod Lending

@@ -1,10 +1,11 @@
-use mathlib.Core.Path.{◌≡◌, refl, sym, ap, ◌∙◌}
+use mathlib.Core.Path.{◌≡◌, refl, ap, ◌∙◌}
 use mathlib.Core.List.{List}
 use Prim.Native.Nat.{◌-◌}
-use lib.ListN.{length, get_or, set, length-map}
+use lib.ListN.{length, get_or, set}
 use Rattle.model.specs.declared.Waiting.{Waiting}
 use Rattle.model.specs.Queue.{free}
 use native.Mathlib.Omega.{arith}
+use borrow.Author.Rules.{rules}
 use Rattle.model.proofs.TestLaws.{within_in}
 use Rattle.queue.proofs.Steps.{moved_to, move_step, move-last}
 use Rattle.queue.proofs.moved_up.Goals as goal
@@ -30,7 +31,7 @@ pub loop-i-preserved : goal.loop-i-preserved
 loop-i-preserved c =
     let n = within_in c.args.q.count 1 16 c.requires in
     let ws = c.args.q.waiting in
-    let long : length ws ≡ 16 = sym (length-map ws _) ∙ c.well_formed.0.1.1.1.0.1.0.1 in
+    let long : length ws ≡ 16 = search rules in
     let i = c.loop-i.i in (
       omega arith,
       (
@@ -53,7 +54,7 @@ pub returns : goal.returns
 returns c =
     let n = within_in c.args.q.count 1 16 c.requires in
     let ws = c.args.q.waiting in
-    let long : length ws ≡ 16 = sym (length-map ws _) ∙ c.well_formed.0.1.1.1.0.1.0.1 in
+    let long : length ws ≡ 16 = search rules in
     let i : c.loop-i.i ≡ c.args.q.count = omega (arith, c.loop-i-test.false, c.loop-i.invariant.1.0) in
     ap (λ (xs : List Waiting). record { count = c.args.q.count - 1; waiting = xs })
     (ap (λ (xs : List Waiting). set xs (c.args.q.count - 1) free) (c.loop-i.invariant.1.1.1 ∙ ap (moved_to ws) i)
