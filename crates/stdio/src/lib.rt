@@ -134,6 +134,13 @@ pub struct Got {
     pub failed: bool,
 }
 
+// Whether to read again, after a read that failed.
+fn reads_again(rt: &(impl Eprint + Clock), error: Error) -> bool
+    ensures { result ≡ is_passing (unwrap_or (raw_os_error error) (pos 0)) }
+{
+    recovers(rt, "book: standard input", error)
+}
+
 // One read of a reader. Where it fails says so.
 pub fn get_from<R: Read>(rt: &(impl Eprint + Clock), input: &mut R, buf: &mut [u8]) -> Got
     ensures prefix_len { IsPrefixLen result.count buf.new }
@@ -151,7 +158,7 @@ pub fn get_from<R: Read>(rt: &(impl Eprint + Clock), input: &mut R, buf: &mut [u
                 };
             }
             Err(error) => {
-                if !recovers(rt, "book: standard input", error) {
+                if !reads_again(rt, error) {
                     break;
                 }
             }
