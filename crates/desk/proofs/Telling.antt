@@ -153,8 +153,8 @@ quantities-long (l ∷ ls) = ap suc (quantities-long ls)
 unpadded : (k n : ℕ) (xs : List ℕ) → length xs ≡ n → take n (pad_to k xs) ≡ xs
 unpadded k n xs e = take_at xs (replicate (k - length xs) 0) n e
 
-stored_lines : (ls : List Line) → lines_of (take (length ls) (pad_to 15 (items_of ls))) (take (length ls) (pad_to 15 (supplies_of ls))) (take (length ls) (pad_to 15 (quantities_of ls))) ≡ ls
-stored_lines ls =
+stored_lines_lem : (ls : List Line) → lines_of (take (length ls) (pad_to 15 (items_of ls))) (take (length ls) (pad_to 15 (supplies_of ls))) (take (length ls) (pad_to 15 (quantities_of ls))) ≡ ls
+stored_lines_lem ls =
     rw (unpadded 15 (length ls) (items_of ls) (items-long ls), unpadded 15 (length ls) (supplies_of ls) (supplies-long ls), unpadded 15 (length ls) (quantities_of ls) (quantities-long ls))
     (lines-back ls)
 
@@ -167,7 +167,7 @@ form_of f g e = cc
 
 restored : (s : Reading) (form : Form) → (stored s).outcome ≡ ReadCase.Request form → s ≡ read (request_in_lem form (stored s).lines (stored s).name)
 unfolding stored
-restored (read (new_order q ls)) form e = rw (← form_of _ form e) (ap (λ (k : List Line). read (new_order q k)) (sym (stored_lines ls)))
+restored (read (new_order q ls)) form e = rw (← form_of _ form e) (ap (λ (k : List Line). read (new_order q k)) (sym (stored_lines_lem ls)))
 restored (read (payment q who)) form e = rw (← form_of _ form e) (ap (λ (w : Who). read (payment q w)) (sym (who-back who)))
 restored (read (delivery q)) form e = rw (← form_of _ form e)
 restored (read (order_status q who)) form e = rw (← form_of _ form e) (ap (λ (w : Who). read (order_status q w)) (sym (who-back who)))
