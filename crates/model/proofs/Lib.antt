@@ -8,6 +8,7 @@ pub mod InTurn
 pub mod Rewrite
 pub mod Fields
 pub mod ListLaws
+pub mod Lifting
 pub mod RuleLaws
 pub mod MarkLaws
 pub mod DecimalLaws

@@ -26,7 +26,8 @@ use Rattle.model.specs.Tally.{Tally, Opened, Done, is2, add_if, tally_line, tall
 use Rattle.model.specs.Claim.{R}
 use Rattle.model.specs.TopUpClaim.{quantities_from, taken_by, taken_from, lifts_over, third_of, lifts_said, lifts_answered}
 use Rattle.model.proofs.NumberLaws.{nat-pos}
-use Rattle.model.proofs.RuleLaws.{lifts-not, lifts_so, Ruled, restocked, Tabled, tabled}
+use Rattle.model.proofs.Lifting.{lifts-not}
+use Rattle.model.proofs.RuleLaws.{lifts_so, Ruled, restocked, Tabled, tabled}
 use Rattle.model.proofs.TestLaws.{and_left}
 use Rattle.model.proofs.ListLaws.{sum_append}
 use Rattle.model.proofs.Sums.{sum_up, sum_same, sum-zero, sum_both, sum_alone}

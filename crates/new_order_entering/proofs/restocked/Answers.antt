@@ -1,4 +1,5 @@
-use Rattle.model.proofs.RuleLaws.{lifts-not, lifts_so, restock-keeps, restock-lifts}
+use Rattle.model.proofs.Lifting.{lifts-not}
+use Rattle.model.proofs.RuleLaws.{lifts_so, restock-keeps, restock-lifts}
 use mathlib.Core.Path.{sym}
 use native.Mathlib.Omega.{arith}
 use Rattle.new_order_entering.proofs.restocked.Goals as goal
