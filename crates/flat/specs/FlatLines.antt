@@ -3,7 +3,6 @@
 -- Assumes nothing.
 use Rattle.std.specs.Prelude.{List, [], ◌∷◌, ℕ}
 use Rattle.model.specs.declared.Form.{Form}
-use Rattle.model.specs.declared.Form.TheVariants as Form
 use Rattle.model.specs.declared.ReadOutcome.{ReadOutcome}
 use Rattle.model.specs.declared.ReadOutcome.TheVariants as ReadCase
 use Rattle.model.specs.declared.Selection.{Selection}

@@ -10,7 +10,6 @@ use Rattle.model.specs.declared.Refusal.{Refusal}
 use Rattle.model.specs.Tests.{Check, fault, staged}
 use Rattle.model.specs.Head.{dims, head_ok}
 use Rattle.layout.specs.declared.Head.{Head}
-use Rattle.layout.specs.declared.Head.TheVariants as Head
 use Rattle.layout.specs.Heads.{Read, HeadSays}
 
 module _ (b : List ℤ) (n : ℕ) {h : Head} (v : HeadSays b n h) where

@@ -5,7 +5,6 @@ use Rattle.model.specs.declared.Dims.{Dims}
 use Rattle.model.specs.Head.{dims, head_ok}
 use Rattle.model.proofs.Fields.{Shaped}
 use Rattle.layout.specs.declared.Head.{Head}
-use Rattle.layout.specs.declared.Head.TheVariants as Head
 
 -- a book of dimensions d; n is the number of name bytes
 pub record Read (b : List ℤ) (n : ℕ) (d : Dims) : Type 0 where

@@ -14,7 +14,7 @@ use Rattle.model.specs.declared.LastName.{LastName}
 use Rattle.model.specs.declared.ReadOutcome.TheVariants as ReadCase
 use Rattle.model.specs.declared.Selection.{Selection}
 use Rattle.model.specs.Tests.{every, all_of}
-use Rattle.model.specs.Request.{Request, payment, order_status}
+use Rattle.model.specs.Request.{payment, order_status}
 use Rattle.model.specs.Text.{is_number, value_of, parted}
 use Rattle.model.specs.RequestLine.{is_who, who_read, field, number_in, read, no_form, read_payment, read_order_status, read_fields, read_parted, read_line, stored_lines, stored}
 use Rattle.model.proofs.TestLaws.{every-each, and_left, and_right}

@@ -13,7 +13,6 @@ use lib.Seq.{take-suc, take-length, length-take-le}
 use borrow.Author.Tests.{eq-eqb, ne_eqb, leb-true, le-leb, lt-leb, not-true, not-false}
 use Rattle.model.specs.declared.LastName.{LastName}
 use Rattle.model.specs.declared.Selection.{Selection}
-use Rattle.model.specs.declared.Selection.TheVariants as Selection
 use Rattle.model.specs.Tests.{all_of}
 use Rattle.model.specs.RequestLine.{is_printable, is_name, is_who, who_read, pad_to, selection, name_of_who, stored_name}
 use Rattle.model.proofs.TestLaws.{every-each}

@@ -4,7 +4,6 @@ use Rattle.std.specs.Prelude.{◌≡◌, Bool, true, false, cond, List, [], ◌�
 use Rattle.model.specs.declared.LastName.{LastName}
 use Rattle.model.specs.declared.Lines.{Lines}
 use Rattle.model.specs.declared.Selection.{Selection}
-use Rattle.model.specs.declared.Selection.TheVariants as Selection
 use Rattle.model.specs.Tests.{all_of}
 use Rattle.model.specs.Lists.{up_to}
 use Rattle.model.specs.Text.{is_number, value_of}

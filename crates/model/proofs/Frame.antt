@@ -10,7 +10,7 @@ use native.Mathlib.Decide.{dec_lt}
 use lib.IntN.{ℤ, pos}
 use lib.ListN.{length, get_or, set, length-set}
 use lib.Seq.{get_or-set_same, get_or-set_other}
-use Rattle.model.specs.Layout.{Shape, Addr, at, place, total, none}
+use Rattle.model.specs.Layout.{Shape, Addr, place, total, none}
 use Rattle.model.specs.Store.{get, remap, Op, one, row, op, run}
 use Rattle.model.proofs.Places.{Valid, same, place_lt, row_same, start, place-start, true_same, same_place, false-place, row-true, row_inside}
 

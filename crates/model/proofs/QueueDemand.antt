@@ -9,7 +9,6 @@ use lib.Count.{ones}
 use lib.ListN.{length, get_or, take, length-append, length-take, get_or-append}
 use lib.Seq.{length-take-le, get_or-take, get_or-append-add, get_or_at}
 use borrow.Author.Tests.{le-leb, lt-ltb, eq-eqb, ne_eqb, eqb-true}
-use Rattle.model.specs.declared.Queue.{Queue}
 use Rattle.model.specs.declared.Waiting.{Waiting}
 use Rattle.model.specs.Numbers.{max_date}
 use Rattle.model.specs.Lists.{up_to}

@@ -9,10 +9,6 @@ use Prim.Native.String.{String}
 use lib.Count.{ones}
 use lib.IntN.{ℤ, pos, negsuc, ◌+ℤ◌, ◌-ℤ◌}
 use lib.ListN.{length, get_or, set, take, drop, replicate}
-use Rattle.model.specs.declared.Delivery.{Delivery}
-use Rattle.model.specs.declared.Line.{Line}
-use Rattle.model.specs.declared.NewOrder.{NewOrder}
-use Rattle.model.specs.declared.OrderStatus.{OrderStatus}
 use Rattle.model.specs.Tests.{every, all_to}
 use Rattle.model.specs.Numbers.{nat, cell, balance_ok}
 use Rattle.model.specs.Layout.{numbers, name_bytes, inside, place}
@@ -20,7 +16,7 @@ use Rattle.model.specs.Store.{get, remap, op}
 use Rattle.model.specs.Lists.{up_to, sum_of, lowest, largest}
 use Rattle.model.specs.Rows.{warehouse_tests, district_tests, customer_tests, item_tests, stock_tests, slot, order_tests, line_tests, order_ok}
 use Rattle.model.specs.Head.{dims, dims_tests, size_tests, head_ok}
-use Rattle.model.specs.Names.{Who, by_number, by_name, name_place, last_name, first_name, name_ok, padded, compare_names, named, before, namesakes, found, customer_of}
+use Rattle.model.specs.Names.{by_number, by_name, name_place, last_name, first_name, name_ok, padded, compare_names, named, before, namesakes, found, customer_of}
 use Rattle.model.specs.Used.{warehouse_used, district_used, customer_used, item_used, stock_used, order_used, customers_used, names_used, orders_used, who_used, line_used}
 use Rattle.model.specs.LastOrder.{last_long, last_ok, found_ok}
 use Rattle.model.specs.Answer.{Answer, committed, refused}

@@ -3,7 +3,6 @@
 -- Assumes nothing.
 use Rattle.std.specs.Prelude.{Bool, false, ◌&&◌, not, cond, List, [], ◌∷◌, ◌++◌, ℕ, ◌+◌, ◌-◌, ◌*◌, ◌/◌, leb, eqb, pos, length, get_or, take, drop, replicate}
 use Rattle.model.specs.declared.Form.{Form}
-use Rattle.model.specs.declared.Form.TheVariants as Form
 use Rattle.model.specs.declared.LastName.{LastName}
 use Rattle.model.specs.declared.Line.{Line}
 use Rattle.model.specs.declared.Lines.{Lines}
@@ -11,7 +10,6 @@ use Rattle.model.specs.declared.ReadAnswer.{ReadAnswer}
 use Rattle.model.specs.declared.ReadOutcome.TheVariants as ReadCase
 use Rattle.model.specs.declared.Refusal.{Refusal}
 use Rattle.model.specs.declared.Selection.{Selection}
-use Rattle.model.specs.declared.Selection.TheVariants as Selection
 use Rattle.model.specs.declared.WriteOutcome.{WriteOutcome}
 use Rattle.model.specs.declared.WriteOutcome.TheVariants as WriteCase
 use Rattle.model.specs.Tests.{every, all_of, chk, fault}

@@ -16,7 +16,6 @@ use Rattle.model.specs.Text.{is_digit, is_number, value_from, value_of, parted_b
 use Rattle.model.proofs.DecimalLaws.{all_append, Digit}
 use Rattle.model.proofs.TextLaws.{without, parted-one, parted-more}
 use Rattle.text.specs.declared.Number.{Number}
-use Rattle.text.specs.declared.Number.TheVariants as Number
 use Rattle.text.specs.Fields.{parts_from, fields_from, FieldEnd, number_read, has_number, Stepped}
 
 -- ── where a part ends ──

@@ -3,9 +3,7 @@
 use Rattle.std.specs.Prelude.{◌≡◌, Bool, true, false, cond, List, [], ◌∷◌, ℕ, ◌+◌, ◌-◌, ◌≤◌, leb, length, take, drop}
 use Rattle.model.specs.Text.{is_number, value_of, parted_by}
 use Rattle.text.specs.declared.Number.{Number}
-use Rattle.text.specs.declared.Number.TheVariants as Number
 use Rattle.text.specs.declared.Step.{Step}
-use Rattle.text.specs.declared.Step.TheVariants as Step
 
 -- the parts between bytes x, and the fields between tabs, from a position on; the position after the last is one past the end
 unfoldable pub parts_from : ℕ → List ℕ → ℕ → List (List ℕ)

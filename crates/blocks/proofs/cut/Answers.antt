@@ -1,5 +1,4 @@
 use Rattle.blocks.proofs.Bytes.{byte_ends, byte_goes, none-taken, all-taken}
-use Prim.Native.Nat.{◌-◌}
 use borrow.Author.Rules.{rules}
 use Rattle.blocks.proofs.cut.Goals as goal
 

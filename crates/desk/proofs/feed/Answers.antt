@@ -1,7 +1,6 @@
 use borrow.Author.Tests.{not-true, not-false}
 use Rattle.desk.proofs.Telling.{written_part}
 use Rattle.desk.proofs.Blocks.{none_fed, line_fed, block_fed, closed_fed, left-line}
-use Prim.Native.Nat.{◌-◌}
 use native.Mathlib.Omega.{arith}
 use borrow.Author.Rules.{rules}
 use Rattle.desk.proofs.feed.Goals as goal

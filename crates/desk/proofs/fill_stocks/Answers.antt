@@ -1,5 +1,4 @@
 use borrow.Author.Rules.{rules}
-use Prim.Native.Nat.{◌-◌}
 use lib.ListN.{length-set}
 use Rattle.desk.specs.Filling.{stocks_to}
 use Rattle.desk.proofs.Filled.{stocks_none, stocks_step}

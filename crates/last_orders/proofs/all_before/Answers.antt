@@ -1,5 +1,5 @@
 use Rattle.last_orders.proofs.Passing.{none_found, found-step, found_all}
-use Rattle.std.proofs.Common.{◌-◌, ◌/◌, refl, arith, rules}
+use Rattle.std.proofs.Common.{◌/◌, refl, arith, rules}
 use Rattle.last_orders.proofs.all_before.Goals as goal
 
 pub loop-i-init : goal.loop-i-init

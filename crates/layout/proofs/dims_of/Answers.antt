@@ -1,5 +1,4 @@
 use Rattle.model.specs.Head.{dims}
-use Prim.Native.Nat.{◌-◌}
 use native.Mathlib.Omega.{arith}
 use Rattle.layout.proofs.dims_of.Goals as goal
 

@@ -1,5 +1,4 @@
 use Rattle.model.specs.Head.{dims, dims_tests}
-use Prim.Native.Nat.{◌-◌}
 use Rattle.layout.proofs.dims_ok.Goals as goal
 
 pub returns : goal.returns

@@ -7,7 +7,6 @@ use Rattle.model.proofs.Fields.{Shaped, Dimensioned, dims_are, head-shaped}
 use Rattle.model.specs.declared.Dims.{Dims}
 use Rattle.model.specs.Head.{head_ok}
 use borrow.Author.Tests.{le-leb, lt-leb, not-true, not-false}
-use Prim.Native.Nat.{◌-◌}
 use mathlib.Core.Path.{◌≡◌, sym, ap, ◌∙◌}
 use borrow.Author.Rules.{rules}
 use mathlib.Core.Bool.{not}

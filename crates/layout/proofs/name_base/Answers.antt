@@ -1,5 +1,4 @@
 use Rattle.model.proofs.NameLaws.{name-first, names_end, names_max}
-use Prim.Native.Nat.{◌-◌}
 use native.Mathlib.Omega.{arith}
 use Rattle.layout.proofs.name_base.Goals as goal
 

@@ -1,5 +1,4 @@
 use Rattle.layout.specs.Runs.{row_in}
-use Prim.Native.Nat.{◌-◌}
 use native.Mathlib.Omega.{arith}
 use Rattle.layout.proofs.order_in.Goals as goal
 

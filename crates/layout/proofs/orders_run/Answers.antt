@@ -2,7 +2,7 @@ use Rattle.model.specs.Rows.{order_row}
 use Rattle.model.specs.Layout.{numbers, shapes, place}
 use Rattle.layout.proofs.Bounds.{order-run}
 use Rattle.layout.specs.Runs.{row_in}
-use Prim.Native.Nat.{ℕ, ◌≤◌, ◌<◌, ◌+◌, ◌*◌, ◌-◌}
+use Prim.Native.Nat.{ℕ, ◌≤◌, ◌<◌, ◌+◌, ◌*◌}
 use mathlib.Core.Path.{◌≡◌, refl}
 use native.Mathlib.Omega.{arith}
 use Rattle.layout.proofs.orders_run.Goals as goal

@@ -1,5 +1,4 @@
 use borrow.Author.Rules.{rules}
-use Prim.Native.Nat.{◌-◌}
 use lib.ListN.{length-set}
 use Rattle.lines.proofs.Whos.{bytes-step, bytes_end}
 use Rattle.lines.proofs.name_of.Goals as goal

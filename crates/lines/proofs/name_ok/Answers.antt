@@ -1,5 +1,5 @@
 use borrow.Author.Rules.{rules}
-use Prim.Native.Nat.{◌-◌, ◌<◌}
+use Prim.Native.Nat.{◌<◌}
 use lib.ListN.{length}
 use Rattle.lines.proofs.Whos.{name-none, printable_step, name_end, name-empty, name-long}
 use Rattle.lines.proofs.name_ok.Goals as goal

@@ -1,4 +1,3 @@
-use native.Mathlib.Omega.{arith}
 use borrow.Author.Tests.{ltb-false}
 use mathlib.Core.Path.{sym, subst, ◌∙◌}
 use Rattle.model.specs.declared.Lines.{Lines}

@@ -1,6 +1,5 @@
 use Rattle.model.proofs.TestLaws.{turned_away, passed_on}
 use Rattle.model.specs.StockLevel.{level_asked}
-use Prim.Native.Nat.{◌-◌}
 use Rattle.std.proofs.Common.{ap}
 use mathlib.Core.Bool.{not}
 use Rattle.stock_level.proofs.asked.Goals as goal

@@ -1,7 +1,6 @@
 use Rattle.model.proofs.StockLevelFacts.{level_asked_numbered, level_asked_lem}
 use Rattle.model.proofs.TestLaws.{fault_then, fault-first}
 use Rattle.model.specs.StockLevel.{level_asked, level_used}
-use Prim.Native.Nat.{◌-◌}
 use mathlib.Core.Path.{sym, ap, ◌∙◌}
 use Rattle.stock_level.proofs.fault_in.Goals as goal
 

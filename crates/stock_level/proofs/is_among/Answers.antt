@@ -1,5 +1,4 @@
 use Rattle.stock_level.proofs.Notes.{among_here, among_next, among_end}
-use Prim.Native.Nat.{◌-◌}
 use mathlib.Core.Path.{refl}
 use borrow.Author.Rules.{rules}
 use Rattle.stock_level.proofs.is_among.Goals as goal

@@ -1,5 +1,4 @@
 use Rattle.stock_level.proofs.Notes.{first_in_lem, few, reads, count_is}
-use Prim.Native.Nat.{◌-◌}
 use native.Mathlib.Omega.{arith}
 use Rattle.stock_level.proofs.low_items.Goals as goal
 

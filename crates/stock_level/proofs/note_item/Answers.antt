@@ -2,7 +2,6 @@ use Rattle.stock_level.specs.Notes.{low_at}
 use borrow.Author.Tests.{lt-ltb, le-ltb}
 use lib.Seq.{take-suc-set}
 use native.Mathlib.Numerals.{add-one}
-use Prim.Native.Nat.{◌-◌}
 use borrow.Author.Rules.{rules}
 use Rattle.stock_level.proofs.note_item.Goals as goal
 

@@ -6,7 +6,7 @@ use Rattle.model.specs.Store.{from}
 use Rattle.model.specs.Numbers.{nat}
 use native.Mathlib.Nat.{le_antisymm}
 use lib.ListN.{take}
-use Prim.Native.Nat.{◌+◌, ◌-◌}
+use Prim.Native.Nat.{◌+◌}
 use mathlib.Core.Path.{◌≡◌, refl, ap, ◌∙◌}
 use native.Mathlib.Omega.{arith}
 use borrow.Author.Rules.{rules}

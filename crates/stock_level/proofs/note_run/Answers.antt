@@ -2,7 +2,6 @@ use lib.ListN.{take}
 use native.Mathlib.Nat.{le_antisymm}
 use Rattle.stock_level.specs.Notes.{items_in}
 use Rattle.stock_level.proofs.Notes.{run_turn}
-use Prim.Native.Nat.{◌-◌}
 use mathlib.Core.Path.{◌≡◌, refl}
 use native.Mathlib.Omega.{arith}
 use borrow.Author.Rules.{rules}

@@ -5,7 +5,6 @@ use Rattle.model.specs.StockLevel.{level_asked, level_used, stock_level_fault}
 use Rattle.model.proofs.TestLaws.{staged-head}
 use Rattle.layout.proofs.Heads.{head_read, head_damaged}
 use Rattle.stock_level.proofs.Stages.{turned_call, whole, ready, counted-call}
-use Prim.Native.Nat.{◌-◌}
 use mathlib.Core.Path.{◌≡◌, refl, ap, ◌∙◌}
 use native.Mathlib.Omega.{arith}
 use Rattle.stock_level.proofs.stock_level.Goals as goal

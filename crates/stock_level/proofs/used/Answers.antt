@@ -1,7 +1,6 @@
 use borrow.Author.Tests.{not-false}
 use Rattle.model.proofs.TestLaws.{turned_away, passed_on}
 use Rattle.model.specs.StockLevel.{level_used}
-use Prim.Native.Nat.{◌-◌}
 use mathlib.Core.Path.{sym, ◌∙◌}
 use Rattle.std.proofs.Common.{ap}
 use mathlib.Core.Bool.{not}

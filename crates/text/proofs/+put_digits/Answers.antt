@@ -1,6 +1,5 @@
 use native.Mathlib.Omega.{arith}
 use native.Mathlib.Nat.{mod-eq_of_lt}
-use lib.ListN.{length-set}
 use Prim.Native.Nat.{◌<◌}
 use Rattle.model.proofs.DecimalLaws.{dec_small, dec_more, length_more, length_small}
 use Rattle.text.proofs.Putting.{sets_append}

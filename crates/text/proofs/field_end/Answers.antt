@@ -1,6 +1,4 @@
 use borrow.Author.Rules.{rules}
-use Prim.Native.Nat.{◌-◌}
-use mathlib.Core.Bool.{true}
 use Rattle.text.proofs.Walk.{part_none, part_step, ends_at_byte, ends_at_end}
 use Rattle.text.proofs.field_end.Goals as goal
 

@@ -1,5 +1,5 @@
 use Rattle.topup.proofs.Rows.{none_kept, kept_step}
-use Rattle.std.proofs.Common.{◌-◌, rules}
+use Rattle.std.proofs.Common.{rules}
 use Rattle.model.specs.Tests.{all_to}
 use Rattle.model.specs.TopUp.{row_ok}
 use Rattle.model.proofs.ListLaws.{at_end}

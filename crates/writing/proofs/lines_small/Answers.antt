@@ -1,9 +1,8 @@
 use borrow.Author.Rules.{rules}
 use mathlib.Core.Path.{refl, sym, ◌∙◌}
-use Prim.Native.Nat.{◌≤◌, ◌-◌, ◌<◌}
+use Prim.Native.Nat.{◌≤◌, ◌<◌}
 use native.Mathlib.Omega.{arith}
 use lib.ListN.{length}
-use Rattle.model.specs.RequestLine.{line_small}
 use Rattle.model.specs.Request.{lines_of}
 use Rattle.writing.proofs.Putting.{small_stop, small_again, smalls_end}
 use Rattle.std.proofs.Common.{ap}
