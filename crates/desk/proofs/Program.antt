@@ -28,7 +28,7 @@ use Rattle.model.specs.Claim.{R, Claim, Never, last_order, Started, NeverBy}
 use Rattle.model.proofs.Demand.{demand}
 use Rattle.model.proofs.LastDemand.{last-orders, last_serves}
 use Rattle.model.proofs.NoteDemand.{notes_serve}
-use Rattle.model.proofs.Listing.{program_book, program_names, program_last_lem, program_notes, program_topup, accepted}
+use Rattle.model.proofs.Listing.{program_book, program_names, program_last, program_notes, program_topup, accepted}
 use Rattle.model.proofs.TopUpDemand.{opening_accepts, table_serves}
 use Rattle.desk.specs.Step.{None239, Sound}
 use Rattle.desk.specs.Input.{left_by, requests_in, held_in, Served}
@@ -94,7 +94,7 @@ module _ (s : Lent) (opened : Accepted s.nums s.names) where
 
 -- ── the program's book ──
 abbrev pub program : Lent
-program = lent program_book program_names program_last_lem program_notes program_topup
+program = lent program_book program_names program_last program_notes program_topup
 
 program_accepted : Accepted program_book program_names
 program_accepted = ((opening_accepts program_book program_names program_topup).0 accepted).0
@@ -117,9 +117,9 @@ unfolding dims cell nat
 program_started = record { accepted = program_accepted; zeros = refl }
 
 -- whatever `serve` leaves: each number is the one that the scan of the book finds
-pub program_last : (left : Lent) → Served program left → (w k c : ℕ) → R (dims program_book).warehouses w → R 10 k → R (dims program_book).customers c
+pub program_last_lem : (left : Lent) → Served program left → (w k c : ℕ) → R (dims program_book).warehouses w → R 10 k → R (dims program_book).customers c
     → last_at (dims program_book) left.last w k c ≡ pos (last_order (dims program_book) left.nums w k c)
-program_last left v w k c r s u =
+program_last_lem left v w k c r s u =
     subst (λ (x : Lent). last_at (dims program_book) x.last w k c ≡ pos (last_order (dims program_book) x.nums w k c)) (sym v.leaves)
     ((last-orders program program_started (held_in v.input)).1 w k c r s u)
 

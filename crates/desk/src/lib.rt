@@ -4,7 +4,7 @@
 ghost use Rattle.std.specs.Prelude.{◌≡◌, ◌≤◌, pos, length, take, replicate, if◌then◌else◌};
 ghost use Rattle.std.specs.Process.{exit_status};
 ghost use Rattle.model.specs.Request.{lent};
-ghost use Rattle.model.proofs.Listing.{program_book, program_names, program_last_lem, program_notes, program_topup};
+ghost use Rattle.model.proofs.Listing.{program_book, program_names, program_last, program_notes, program_topup};
 ghost use Rattle.blocks.specs.Cutting.{Started};
 ghost use Rattle.desk.specs.Step.{Stepped, Ran};
 ghost use Rattle.desk.specs.Input.{FedIn, Served};
@@ -217,7 +217,7 @@ fn serve(
     notes: &mut [u8],
     topup: &[i64],
 ) -> bool
-    requires { (b.old ≡ program_book) × ((names.now ≡ program_names) × ((last.old ≡ program_last_lem) × ((notes.old ≡ program_notes) × (topup.now ≡ program_topup)))) }
+    requires { (b.old ≡ program_book) × ((names.now ≡ program_names) × ((last.old ≡ program_last) × ((notes.old ≡ program_notes) × (topup.now ≡ program_topup)))) }
     ensures { Served (lent b.old names.now last.old notes.old topup.now)
         (lent b.new names.now last.new notes.new topup.now) }
 {

@@ -29,7 +29,7 @@ use Rattle.model.specs.Text.{is_number, value_of, decimal, tabbed, line_text, pa
 use Rattle.model.specs.RequestLine.{is_name, is_who, who_read, lines_read, read_new_order, read_payment, read_delivery, read_order_status, read_stock_level, read_fields, read_line}
 use Rattle.model.specs.AnswerLine.{answer_line, no_form_line, printed_for, left_after}
 use Rattle.model.specs.Claim.{last_order}
-use Rattle.model.proofs.Listing.{program_book, program_names, program_last_lem, program_notes, program_topup}
+use Rattle.model.proofs.Listing.{program_book, program_names, program_last, program_notes, program_topup}
 use Rattle.model.proofs.Readings.{Case, prints, left, Prints, Refuses, refused_by, opened, everyone, none_ordered, unwritten, as_ever}
 
 -- a book of the program's size with a slice of its own; the program's book
@@ -41,10 +41,10 @@ program last = sized program_book last
 
 -- .. with customer 2's number in district 1, at index 1, and customer 1's, at index 0
 abbrev second : ℤ → List ℤ
-second z = set program_last_lem 1 z
+second z = set program_last 1 z
 
 abbrev first : ℤ → List ℤ
-first z = set program_last_lem 0 z
+first z = set program_last 0 z
 
 abbrev short : List ℤ
 short = replicate 19 (pos 0)
@@ -100,9 +100,9 @@ of_two_depots =
 
 pub record LastCases : Type 0 where
   -- "New-Order maintains it and alone writes it, one and the same through a list of calls; Order-Status reads it"
-  pub printed : Prints (program program_last_lem) history
-  pub scan : scanned_all (program program_last_lem) history ≡ true
-  pub noted : (left (program program_last_lem) history).last ≡ pos 3 ∷ pos 2 ∷ pos 1 ∷ replicate 17 (pos 0)
+  pub printed : Prints (program program_last) history
+  pub scan : scanned_all (program program_last) history ≡ true
+  pub noted : (left (program program_last) history).last ≡ pos 3 ∷ pos 2 ∷ pos 1 ∷ replicate 17 (pos 0)
   -- 13: "when the slice's length is not 10 × W × C"; the calls that do not take the slice do not look at it
   pub too_short : Prints (program short) (
       prints "S 1 1 #1" "S 13 0"
@@ -120,7 +120,7 @@ pub record LastCases : Type 0 where
       ∷ prints "S 1 2 #1" "S 0 1 0 0 0 0"
       ∷ prints "N 1 2 1 100 1 1 1" "N 0 1 104"
       ∷ [])
-  pub other_district : Prints (program (set program_last_lem 3 (pos 7))) (
+  pub other_district : Prints (program (set program_last 3 (pos 7))) (
       prints "S 1 1 #1" "S 0 1 0 0 0 0"
       ∷ prints "N 1 1 1 100 1 1 1" "N 0 1 104"
       ∷ prints "S 1 1 #1" "S 0 1 0 1 100 0 1 1 1 100 0"

@@ -56,8 +56,8 @@ program_names =
     times 10 ((65 ∷ 76 ∷ 77 ∷ replicate 13 32) ++ (69 ∷ 86 ∷ 65 ∷ replicate 13 32) ++ (65 ∷ 76 ∷ 77 ∷ replicate 13 32) ++ (66 ∷ 79 ∷ replicate 14 32))
 
 -- R-1: the slice all 0
-abbrev pub program_last_lem : List ℤ
-program_last_lem = replicate 20 (pos 0)
+abbrev pub program_last : List ℤ
+program_last = replicate 20 (pos 0)
 
 -- R-4: the text "starts as spaces", 500 bytes a customer
 abbrev pub program_notes : List ℕ
@@ -88,7 +88,7 @@ unfolding opening_fault margin_of lift_of row_tests row_ok topup_ok head_ok dims
 accepted = refl
 
 -- the listing of document 01
-pub listing : answered (lent program_book program_names program_last_lem program_notes program_topup) (lines (
+pub listing : answered (lent program_book program_names program_last program_notes program_topup) (lines (
     "N 1 1 1 100 1 1 10 2 1 3" ∷
     "N 1 1 1 101 1 1 1 4 1 1" ∷
     "N 1 1 2 102 1 1 1" ∷

@@ -30,7 +30,7 @@ use Rattle.model.specs.Request.{Lent, lent, answer_of, orders_of, shown_part, nu
 use Rattle.model.specs.Text.{is_number, value_of, decimal, tabbed, line_text, parted_by}
 use Rattle.model.specs.RequestLine.{is_name, is_who, who_read, lines_read, read_new_order, read_payment, read_delivery, read_order_status, read_stock_level, read_fields, read_line}
 use Rattle.model.specs.AnswerLine.{answer_line, no_form_line, printed_for, left_after}
-use Rattle.model.proofs.Listing.{program_book, program_names, program_last_lem, program_notes, program_topup}
+use Rattle.model.proofs.Listing.{program_book, program_names, program_last, program_notes, program_topup}
 use Rattle.model.proofs.Readings.{Case, prints, left, Prints, Refuses, opened, everyone, people, small_of, none_ordered, unwritten, as_ever}
 
 -- bytes as they are written
@@ -44,7 +44,7 @@ Noting s cs notes = Prints s cs × ((left s cs).notes ≡ notes)
 
 -- a book of the program's size with a text of its own
 abbrev sized : List ℤ → List ℕ → Lent
-sized b notes = lent b program_names program_last_lem notes program_topup
+sized b notes = lent b program_names program_last notes program_topup
 
 -- the program's book with credit 1 for customer 2 of district 1, whose row starts at index 6 + 2 + 30 + 6; with all 8 slots of history taken; with the
 -- depot's money out of range

@@ -35,7 +35,7 @@ use Rattle.model.specs.RequestLine.{is_name, is_who, who_read, lines_read, read_
 use Rattle.model.specs.AnswerLine.{answer_line, no_form_line, printed_for, left_after}
 use Rattle.model.specs.Tally.{Done}
 use Rattle.model.specs.Events.{Event, call, queue, run, Yard, after_event, after_events, stand_as, done_events, Run, runs, queued, taken}
-use Rattle.model.proofs.Listing.{bytes, program_book, program_names, program_last_lem, program_notes, program_topup}
+use Rattle.model.proofs.Listing.{bytes, program_book, program_names, program_last, program_notes, program_topup}
 use Rattle.model.proofs.Readings.{prints, left, Prints, refused_by}
 
 -- a request: its date of queuing, depot and carrier
@@ -59,7 +59,7 @@ line s n = bytes s ++ (10 ∷ dots n)
 
 -- the program's book; with a history count above H; with district 1's tax out of range; with order 1 of districts 1 and 3 waiting
 abbrev lent_as : List ℤ → Lent
-lent_as b = lent b program_names program_last_lem program_notes program_topup
+lent_as b = lent b program_names program_last program_notes program_topup
 
 abbrev headless : List ℤ
 headless = set program_book 5 (pos 9)

@@ -34,7 +34,7 @@ use Rattle.model.specs.RequestLine.{is_name, is_who, who_read, lines_read, read_
 use Rattle.model.specs.AnswerLine.{answer_line, no_form_line, printed_for, left_after}
 use Rattle.model.specs.Tally.{Done, after_all, done_all}
 use Rattle.model.specs.TopUpClaim.{taken_from, lifts_over, lifts_of, lifts_answered, all_lifts, Lending, lending, after_lent, done_lent}
-use Rattle.model.proofs.Listing.{times, program_book, program_names, program_last_lem, program_notes, program_topup}
+use Rattle.model.proofs.Listing.{times, program_book, program_names, program_last, program_notes, program_topup}
 use Rattle.model.proofs.Readings.{Case, prints, left, Prints, Refuses, refused_by, part, opened, everyone, alms, small_of, none_ordered, unwritten}
 
 -- 17 on a table for n items
@@ -71,7 +71,7 @@ abbrev sized : List ℤ → List ℤ → List ℤ → Lent
 sized b last topup = lent b program_names last program_notes topup
 
 abbrev program : List ℤ → Lent
-program topup = sized program_book program_last_lem topup
+program topup = sized program_book program_last topup
 
 abbrev stocks : Lent → List ℕ
 stocks s = part 163 20 s.nums
@@ -176,7 +176,7 @@ pub record TopUpCases : Type 0 where
   -- "New-Order answers .. how many of its lines did": "An item named twice is taken twice in turn." 20, 10, 100, 99
   pub named_thrice : answers_of (program program_topup) (order 1 1 (line 1 1 10 ∷ line 1 1 1 ∷ line 1 1 1 ∷ []) ∷ []) ≡ told 1 1380 1 ∷ []
   -- 10, 100, 99: of two lines one
-  pub named_twice : answers_of (sized (set program_book 163 (pos 10)) program_last_lem program_topup) (order 1 1 (line 1 1 1 ∷ line 1 1 1 ∷ []) ∷ []) ≡ told 1 230 1 ∷ []
+  pub named_twice : answers_of (sized (set program_book 163 (pos 10)) program_last program_topup) (order 1 1 (line 1 1 1 ∷ line 1 1 1 ∷ []) ∷ []) ≡ told 1 230 1 ∷ []
   -- 20, 20, 29, 38, 47 under 9,990 and 10: every line; none of one that keeps
   pub all_lines : answers_of (program own) (order 1 1 (line 3 1 10 ∷ line 3 1 1 ∷ line 3 1 1 ∷ line 3 1 1 ∷ []) ∷ order 1 1 (line 5 1 10 ∷ line 1 1 10 ∷ []) ∷ [])
       ≡ told 1 14935 4 ∷ told 2 15341 0 ∷ []
@@ -196,10 +196,10 @@ pub record TopUpCases : Type 0 where
       × (Refuses (program (program_topup ++ (pos 10 ∷ []))) seventeenth × Refuses (program []) seventeenth)
   pub one_table : Refuses (lent opened everyone (none_ordered opened) (unwritten opened) (times 6 (pos 10 ∷ pos 91 ∷ []))) seventeenth
   -- every slot taken: 17 before 11; then 11
-  pub before_eleven : Refuses (sized (set program_book 10 (pos 5)) program_last_lem bad) seventeenth
-      × Refuses (sized (set program_book 10 (pos 5)) program_last_lem program_topup) (prints "N 1 1 2 100 4 1 1" "N 11 0" ∷ [])
+  pub before_eleven : Refuses (sized (set program_book 10 (pos 5)) program_last bad) seventeenth
+      × Refuses (sized (set program_book 10 (pos 5)) program_last program_topup) (prints "N 1 1 2 100 4 1 1" "N 11 0" ∷ [])
   -- 13 before 17, of a number and of the length; 9 before 13; 8 before 9; 2 before all
-  pub thirteen_first : Refuses (sized program_book (set program_last_lem 0 (pos 1)) bad) (prints "N 1 1 2 100 1 1 1" "N 13 0" ∷ prints "N 1 2 2 100 1 1 1" "N 17 0" ∷ [])
+  pub thirteen_first : Refuses (sized program_book (set program_last 0 (pos 1)) bad) (prints "N 1 1 2 100 1 1 1" "N 13 0" ∷ prints "N 1 2 2 100 1 1 1" "N 17 0" ∷ [])
       × Refuses (sized program_book [] []) (prints "N 1 1 2 100 1 1 1" "N 13 0" ∷ [])
   pub nine_first : Refuses (sized (set program_book 163 (pos 10000)) [] bad) (prints "N 1 1 2 100 1 1 1" "N 9 0" ∷ prints "N 1 1 2 100 1 1 11" "N 8 1" ∷ [])
       × Refuses (sized (set program_book 5 (pos 9)) [] bad) (prints "N 1 1 2 100 1 1 1" "N 2 0" ∷ [])
