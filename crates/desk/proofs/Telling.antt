@@ -123,8 +123,8 @@ shown_most s (stock_level q) = omega arith
 
 -- ── a reading gives its request back ──
 -- a request as its reading holds it
-abbrev request_in_lem : Form → Lines → LastName → Request
-request_in_lem form l n = request_of form (lines_of (take l.count l.items) (take l.count l.supplies) (take l.count l.quantities)) (name_in n)
+abbrev request_in : Form → Lines → LastName → Request
+request_in form l n = request_of form (lines_of (take l.count l.items) (take l.count l.supplies) (take l.count l.quantities)) (name_in n)
 
 -- the arrays have the lines and the name that are in use
 pub record Held (l : Lines) (n : LastName) : Type 0 where
@@ -165,7 +165,7 @@ who-back (by_name name) = ap by_name (unpadded 16 (length name) name refl)
 form_of : (f g : Form) → ReadCase.Request f ≡ ReadCase.Request g → f ≡ g
 form_of f g e = cc
 
-restored : (s : Reading) (form : Form) → (stored s).outcome ≡ ReadCase.Request form → s ≡ read (request_in_lem form (stored s).lines (stored s).name)
+restored : (s : Reading) (form : Form) → (stored s).outcome ≡ ReadCase.Request form → s ≡ read (request_in form (stored s).lines (stored s).name)
 unfolding stored
 restored (read (new_order q ls)) form e = rw (← form_of _ form e) (ap (λ (k : List Line). read (new_order q k)) (sym (stored_lines_lem ls)))
 restored (read (payment q who)) form e = rw (← form_of _ form e) (ap (λ (w : Who). read (payment q w)) (sym (who-back who)))
@@ -213,11 +213,11 @@ front n xs = take (n - 0) xs
 front_same : (n : ℕ) → n - 0 ≡ n
 front_same n = omega arith
 
-abbrev lent_part_lem : Part → List ℤ → List ℤ
-lent_part_lem p b = take (p.from + p.count - p.from) (drop p.from b)
+abbrev lent_part : Part → List ℤ → List ℤ
+lent_part p b = take (p.from + p.count - p.from) (drop p.from b)
 
-lent_part : (p : Part) (b : List ℤ) → lent_part_lem p b ≡ part_of p b
-lent_part p b = let e : p.from + p.count - p.from ≡ p.count = omega arith in rw e
+lent_part_lem : (p : Part) (b : List ℤ) → lent_part p b ≡ part_of p b
+lent_part_lem p b = let e : p.from + p.count - p.from ≡ p.count = omega arith in rw e
 
 -- ── a line answered ──
 module _ (s : Lent) (line out m : List ℕ) (n : ℕ) (left : Lent) (h : 2048 ≤ length out) where
@@ -235,21 +235,21 @@ module _ (s : Lent) (line out m : List ℕ) (n : ℕ) (left : Lent) (h : 2048 �
 
   -- where it was read: the request and the shown part as code lends them
   module _ (a : ReadAnswer) (form : Form) (e : a ≡ stored (read_line line)) (o : a.outcome ≡ ReadCase.Request form) where
-    was_read : read_line line ≡ read (request_in_lem form a.lines a.name)
-    was_read = restored (read_line line) form (ap (λ (x : ReadAnswer). x.outcome) (sym e) ∙ o) ∙ ap (λ (x : ReadAnswer). read (request_in_lem form x.lines x.name)) (sym e)
+    was_read : read_line line ≡ read (request_in form a.lines a.name)
+    was_read = restored (read_line line) form (ap (λ (x : ReadAnswer). x.outcome) (sym e) ∙ o) ∙ ap (λ (x : ReadAnswer). read (request_in form x.lines x.name)) (sym e)
 
     pub stepped_read : (r : RequestAnswer)
         → Carried s (request_of form (lines_of (front a.lines.count a.lines.items) (front a.lines.count a.lines.supplies) (front a.lines.count a.lines.quantities)) (front a.name.length a.name.bytes)) r left
-        → Answered (has_room out (lent_part_lem r.part left.nums)) (outcome_line r.outcome r.orders (lent_part_lem r.part left.nums)) out m n
+        → Answered (has_room out (lent_part r.part left.nums)) (outcome_line r.outcome r.orders (lent_part r.part left.nums)) out m n
         → Stepped s line out m n left
     unfolding printed_for left_after
     stepped_read r c w =
-        let q = request_in_lem form a.lines a.name in
+        let q = request_in form a.lines a.name in
         let d : Carried s q r left = rw (front_same a.lines.count, front_same a.name.length) at c in
-        let p : lent_part_lem r.part left.nums ≡ part_of r.part left.nums = lent_part r.part left.nums in
-        let few : length (lent_part_lem r.part left.nums) ≤ 75 = rw (p, shown_left s q r left d) (shown_most s q) in
-        stepped (has_room out (lent_part_lem r.part left.nums)) (outcome_line r.outcome r.orders (lent_part_lem r.part left.nums))
-        (room out (lent_part_lem r.part left.nums) h few) (rw was_read (ap (outcome_line r.outcome r.orders) p ∙ line-told s q r left d)) (rw was_read d.leaves) w
+        let p : lent_part r.part left.nums ≡ part_of r.part left.nums = lent_part_lem r.part left.nums in
+        let few : length (lent_part r.part left.nums) ≤ 75 = rw (p, shown_left s q r left d) (shown_most s q) in
+        stepped (has_room out (lent_part r.part left.nums)) (outcome_line r.outcome r.orders (lent_part r.part left.nums))
+        (room out (lent_part r.part left.nums) h few) (rw was_read (ap (outcome_line r.outcome r.orders) p ∙ line-told s q r left d)) (rw was_read d.leaves) w
 
 -- where there is no room
 pub stepped_nothing : (s : Lent) (line out : List ℕ) → length out < 2048 → Stepped s line out out 0 s

@@ -261,7 +261,7 @@ fn serve(
 }
 
 // Whether opening accepted the book, and whether all input was read, every answer taken and the output closed.
-#[derive(Drop)]
+#[derive(Clone, Copy)]
 pub struct Ended {
     pub opened: bool,
     pub whole: bool,

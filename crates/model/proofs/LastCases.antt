@@ -86,8 +86,8 @@ history =
     ∷ []
 
 -- two depots: the number of depot 2's district 3's customer 2 is at index 25; a 7 stands in depot 2's district 1, at index 20
-abbrev two_depots_lem : Lent
-two_depots_lem = lent opened everyone (set (none_ordered opened) 20 (pos 7)) (unwritten opened) (as_ever opened)
+abbrev two_depots : Lent
+two_depots = lent opened everyone (set (none_ordered opened) 20 (pos 7)) (unwritten opened) (as_ever opened)
 
 abbrev of_two_depots : List Case
 of_two_depots =
@@ -166,8 +166,8 @@ pub record LastCases : Type 0 where
       ∷ prints "N 1 1 1 100 1 1 11" "N 8 1"
       ∷ [])
   -- "per customer", rows by depot, district, number; the district of the call's depot alone
-  pub two_depots : Prints two_depots_lem of_two_depots
-  pub two_depots_noted : (left two_depots_lem of_two_depots).last ≡ (pos 1 ∷ replicate 19 (pos 0)) ++ (pos 7 ∷ replicate 4 (pos 0)) ++ (pos 1 ∷ replicate 14 (pos 0))
+  pub two_depots_lem : Prints two_depots of_two_depots
+  pub two_depots_noted : (left two_depots of_two_depots).last ≡ (pos 1 ∷ replicate 19 (pos 0)) ++ (pos 7 ∷ replicate 4 (pos 0)) ++ (pos 1 ∷ replicate 14 (pos 0))
 
 pub last_cases : LastCases
 unfolding all_to nat cell balance_ok numbers name_bytes inside place get remap op up_to sum_of lowest largest warehouse_tests district_tests customer_tests item_tests stock_tests slot order_tests line_tests order_ok dims dims_tests size_tests head_ok name_place last_name first_name name_ok padded compare_names named before namesakes found customer_of warehouse_used district_used customer_used item_used stock_used order_used customers_used names_used orders_used who_used line_used last_long last_ok found_ok last_order new_asked price_of orderable new_used new_order_fault margin_of lift_of row_tests row_ok topup_ok lifts restock line_lifts new_order_commit order_total new_order_total new_order_answer new_order_book new_order_noted new_order_last pay_asked pay_used payment_fault payer payment_commit paid_balance payment_answer payment_book is_bad note_commit payment_notes notes_long note_place text_at note_of moved replaced delivery_asked deliverable delivery_used delivery_fault waits oldest line_amounts deliver_order deliver_district deliver_to delivery_commit oldest_ten delivery_answer delivery_book status_asked status_used status_fault status_customer status_order order_shown lines_part status_answer status_part window_first window_count level_asked window_used level_used stock_level_fault line_items window_items is_low low_items stock_level_answer answer_of nums_after last_after notes_after delivery_orders ones orders_of shown_part decimal tabbed line_text answer_line no_form_line printed_for left_after is_number value_of is_name is_who who_read parted_by lines_read read_new_order read_payment read_delivery read_order_status read_stock_level read_fields read_line
@@ -194,6 +194,6 @@ last_cases = record {
   before_eleven = (refl, refl);
   eleven_after = (refl, refl);
   before_twelve = (refl, refl);
-  two_depots = refl;
+  two_depots_lem = refl;
   two_depots_noted = refl;
 }

@@ -62,8 +62,8 @@ abbrev dense : List ℕ
 dense = replicate 500 65 ++ (replicate 490 66 ++ replicate 10 67) ++ replicate 9000 0
 
 -- the book of two depots with credit 1 for the customer whose row starts at index p
-abbrev two_depots_lem : ℕ → Lent
-two_depots_lem p = lent (set opened p (pos 1)) everyone (none_ordered opened) (unwritten opened) (as_ever opened)
+abbrev two_depots : ℕ → Lent
+two_depots p = lent (set opened p (pos 1)) everyone (none_ordered opened) (unwritten opened) (as_ever opened)
 
 -- W 1, C 5, with credit 1 for the last customer, whose row starts at index 6 + 2 + 30 + 6 · 49
 abbrev five : Lent
@@ -101,13 +101,13 @@ pub record NoteCases : Type 0 where
   -- "the first 500 bytes of their notes, newest first, followed by spaces"; "written by Payment alone"
   pub newest_first_lem : Noting (sized bad program_notes) history (replicate 500 32 ++ written "2 1 1 10 1 123456;2 1 1 1 1 500;" ++ replicate 9468 32)
   -- "customer, its district, its depot, paying district, paying depot, amount": customer 2 of depot 2's district 3 is the 26th, by name customer 1 the 25th
-  pub six_numbers : Noting (two_depots_lem 220) (prints "P 1 7 2 3 #2 5 123" "P 0 2 -123" ∷ []) (replicate 12500 32 ++ written "2 3 2 7 1 123;" ++ replicate 7486 32)
-  pub six_by_name : Noting (two_depots_lem 214) (prints "P 1 7 2 3 =ALM 5 123" "P 0 1 -123" ∷ []) (replicate 12000 32 ++ written "1 3 2 7 1 123;" ++ replicate 7986 32)
+  pub six_numbers : Noting (two_depots 220) (prints "P 1 7 2 3 #2 5 123" "P 0 2 -123" ∷ []) (replicate 12500 32 ++ written "2 3 2 7 1 123;" ++ replicate 7486 32)
+  pub six_by_name : Noting (two_depots 214) (prints "P 1 7 2 3 =ALM 5 123" "P 0 1 -123" ∷ []) (replicate 12000 32 ++ written "1 3 2 7 1 123;" ++ replicate 7986 32)
   -- the last customer's text is the last, where C is not W
   pub last_text : Noting five (prints "P 1 1 1 10 #5 1 100" "P 0 5 -100" ∷ []) (replicate 24500 32 ++ written "5 10 1 1 1 100;" ++ replicate 485 32)
   -- "to a customer with credit 1": not with credit 0, nor where customer 2 of the paying district has credit 1
   pub good_credit : Noting (sized bad dense) (prints "P 1 1 1 1 #1 201 500" "P 0 1 -500" ∷ prints "P 1 1 1 2 #2 201 500" "P 0 2 -500" ∷ []) dense
-  pub payers_credit : Noting (two_depots_lem 148) (prints "P 1 7 2 3 #2 5 123" "P 0 2 -123" ∷ []) (unwritten opened)
+  pub payers_credit : Noting (two_depots 148) (prints "P 1 7 2 3 #2 5 123" "P 0 2 -123" ∷ []) (unwritten opened)
   -- 14: "when the text's length is not 5,000 × W × C" .. "in every Payment", with credit 0 too; one byte short, one too many, none
   pub too_short : Refuses (sized bad (replicate 9999 32)) (
       prints "P 1 1 1 1 #2 201 500" "P 14 0"

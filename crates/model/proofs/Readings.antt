@@ -160,15 +160,15 @@ window_book =
     ++ replicate 7 (pos 0)
 
 -- two orders, of which the second has a remote line
-abbrev pub two_orders_lem : List Case
-two_orders_lem =
+abbrev pub two_orders : List Case
+two_orders =
     prints "N 1 1 1 100 1 1 3 1 1 4" "N 0 1 700"
     ∷ prints "N 1 1 2 99 1 1 2 2 2 5" "N 0 2 1450"
     ∷ []
 
 -- .. and the first of them delivered
 abbrev pub delivered : List Case
-delivered = two_orders_lem ++ (prints "D 1 10 200" "D 0 9 1 0 0 0 0 0 0 0 0 0" ∷ [])
+delivered = two_orders ++ (prints "D 1 10 200" "D 0 9 1 0 0 0 0 0 0 0 0 0" ∷ [])
 
 -- n numbers from index p on
 abbrev pub part : ℕ → ℕ → List ℤ → List ℕ
@@ -179,8 +179,8 @@ abbrev pub level : ℕ → Request
 level t = stock_level (record { warehouse = 1; district = 1; threshold = t })
 
 -- a row, by column
-abbrev pub row_is_lem : List ℤ → ℕ → ℤ
-row_is_lem r k = get_or r k (pos 0)
+abbrev pub row_is : List ℤ → ℕ → ℤ
+row_is r k = get_or r k (pos 0)
 
 -- each number of a row changed by itself
 abbrev pub beyond : (ℤ → ℤ) → List ℤ → List (List ℤ)
@@ -219,7 +219,7 @@ pub record Figures : Type 0 where
       ++ (1 ∷ 100 ∷ 10 ∷ 2 ∷ 1 ∷ 0 ∷ 1 ∷ 1 ∷ 3 ∷ 300 ∷ 200 ∷ 1 ∷ 1 ∷ 4 ∷ 400 ∷ 200 ∷ replicate 65 0)
       ++ (2 ∷ 99 ∷ 0 ∷ 2 ∷ 0 ∷ 1 ∷ 1 ∷ 1 ∷ 2 ∷ 200 ∷ 0 ∷ 2 ∷ 2 ∷ 5 ∷ 1250 ∷ 0 ∷ replicate 65 0)
   -- "a ten-bit mark of skipped districts with the count of its ones; bit d − 1 stands for district d": 1,023 less bit 0
-  pub mark : delivery_answer (left (fresh opened everyone) two_orders_lem).nums everyone (record { warehouse = 1; carrier = 10; date = 200 })
+  pub mark : delivery_answer (left (fresh opened everyone) two_orders).nums everyone (record { warehouse = 1; carrier = 10; date = 200 })
       ≡ committed (pos 9 ∷ pos 1022 ∷ [])
   -- "Distinct items on orders numbered from next − 20 (or 1) to next − 1, whose on hand at this depot is below the threshold, counted.":
   -- next 22, so items 2, 3 and 4. "taking the last order by date (clocks go back; the number decides)"
@@ -324,14 +324,14 @@ pub record Refusals : Type 0 where
 -- what stands beside a refusal
 pub record Beside : Type 0 where
   -- "Delivery's ten numbers stand beside it; when refused they are 0": carrier 11, and 10
-  pub ten_numbers : map (λ c. delivery_orders (left (fresh opened everyone) two_orders_lem).nums everyone (record { warehouse = 1; carrier = c; date = 200 })) (11 ∷ 10 ∷ [])
+  pub ten_numbers : map (λ c. delivery_orders (left (fresh opened everyone) two_orders).nums everyone (record { warehouse = 1; carrier = c; date = 200 })) (11 ∷ 10 ∷ [])
       ≡ replicate 10 0 ∷ (1 ∷ replicate 9 0) ∷ []
   -- "a refused status shows an empty part": with the district's tax, at index 10 of the book, out of range, and in range
-  pub part_shown : map (λ t. status_lines (set (left (fresh opened everyone) two_orders_lem).nums 10 (pos t)) everyone (left (fresh opened everyone) two_orders_lem).last (record { warehouse = 1; district = 1 }) (by_number 2))
+  pub part_shown : map (λ t. status_lines (set (left (fresh opened everyone) two_orders).nums 10 (pos t)) everyone (left (fresh opened everyone) two_orders).last (record { warehouse = 1; district = 1 }) (by_number 2))
       (10000 ∷ 9999 ∷ [])
       ≡ [] ∷ positives (1 ∷ 1 ∷ 2 ∷ 200 ∷ 0 ∷ 2 ∷ 2 ∷ 5 ∷ 1250 ∷ 0 ∷ []) ∷ []
   -- "line count times five, starting in the order slot": refused; order 2, behind 337 numbers and one slot of 81, from its column 6; no order
-  pub part_place : map (λ x. status_part (set (left (fresh opened everyone) two_orders_lem).nums 10 (pos x)) everyone (left (fresh opened everyone) two_orders_lem).last (record { warehouse = 1; district = 1 }) (by_number 2))
+  pub part_place : map (λ x. status_part (set (left (fresh opened everyone) two_orders).nums 10 (pos x)) everyone (left (fresh opened everyone) two_orders).last (record { warehouse = 1; district = 1 }) (by_number 2))
       (10000 ∷ 9999 ∷ [])
       ≡ record { from = 0; count = 0 } ∷ record { from = 424; count = 10 } ∷ []
   pub no_place : status_part opened everyone (none_ordered opened) (record { warehouse = 1; district = 1 }) (by_number 2) ≡ record { from = 0; count = 0 }
@@ -373,30 +373,30 @@ pub record Limits : Type 0 where
   -- (1 to 1,000,000)"
   pub head : Range (λ r. dims_tests (dims r)) (replicate 5 (pos 1)) (positives (20 ∷ 3000 ∷ 100000 ∷ 10000 ∷ 1000000 ∷ []))
   -- "Taxes and discounts are ten-thousandths, 0 to 9,999." "To-date money is 0 to 999,999,999,999" "next order number (1 to O + 1)"
-  pub warehouse : Range (λ r. warehouse_tests (row_is_lem r)) (replicate 2 (pos 0)) (positives (9999 ∷ 999999999999 ∷ []))
-  pub district : Range (λ r. district_tests (dims opened) (row_is_lem r)) (positives (0 ∷ 0 ∷ 1 ∷ [])) (positives (9999 ∷ 999999999999 ∷ 3 ∷ []))
+  pub warehouse : Range (λ r. warehouse_tests (row_is r)) (replicate 2 (pos 0)) (positives (9999 ∷ 999999999999 ∷ []))
+  pub district : Range (λ r. district_tests (dims opened) (row_is r)) (positives (0 ∷ 0 ∷ 1 ∷ [])) (positives (9999 ∷ 999999999999 ∷ 3 ∷ []))
   -- "credit (0 good, 1 bad)" "a balance is within the same distance of zero on either side" "Other counts are 0 to 999,999,999."
-  pub customer : Range (λ r. customer_tests (row_is_lem r)) (pos 0 ∷ pos 0 ∷ negsuc 999999999998 ∷ replicate 3 (pos 0))
+  pub customer : Range (λ r. customer_tests (row_is r)) (pos 0 ∷ pos 0 ∷ negsuc 999999999998 ∷ replicate 3 (pos 0))
       (positives (1 ∷ 9999 ∷ 999999999999 ∷ 999999999999 ∷ 999999999 ∷ 999999999 ∷ []))
   -- "price (0 to 99,999" "on hand (0 to 9,999), lots to date (0 to 9,999,999,999)"
-  pub item : Range (λ r. item_tests (row_is_lem r)) (pos 0 ∷ []) (pos 99999 ∷ [])
-  pub stock : Range (λ r. stock_tests (row_is_lem r)) (replicate 4 (pos 0)) (positives (9999 ∷ 9999999999 ∷ 999999999 ∷ 999999999 ∷ []))
+  pub item : Range (λ r. item_tests (row_is r)) (pos 0 ∷ []) (pos 99999 ∷ [])
+  pub stock : Range (λ r. stock_tests (row_is r)) (replicate 4 (pos 0)) (positives (9999 ∷ 9999999999 ∷ 999999999 ∷ 999999999 ∷ []))
   -- "carrier (0 null, else 1 to 10), line count (1 to 15), all-local (0 or 1), waiting" "Customers, items and depots .. are 1 to C, I and W"
-  pub order : Range (λ r. order_tests (dims opened) (row_is_lem r)) (positives (1 ∷ 1 ∷ 0 ∷ 1 ∷ 0 ∷ 0 ∷ [])) (positives (2 ∷ 6342969600 ∷ 10 ∷ 15 ∷ 1 ∷ 1 ∷ []))
+  pub order : Range (λ r. order_tests (dims opened) (row_is r)) (positives (1 ∷ 1 ∷ 0 ∷ 1 ∷ 0 ∷ 0 ∷ [])) (positives (2 ∷ 6342969600 ∷ 10 ∷ 15 ∷ 1 ∷ 1 ∷ []))
   -- "item, supplying depot, quantity (1 to 10), amount (1 to 999,990), delivery date (0 null)"
-  pub line : Range (λ r. line_tests (dims opened) (row_is_lem r)) (positives (1 ∷ 1 ∷ 1 ∷ 1 ∷ 0 ∷ [])) (positives (3 ∷ 2 ∷ 10 ∷ 999990 ∷ 6342969600 ∷ []))
+  pub line : Range (λ r. line_tests (dims opened) (row_is r)) (positives (1 ∷ 1 ∷ 1 ∷ 1 ∷ 0 ∷ [])) (positives (3 ∷ 2 ∷ 10 ∷ 999990 ∷ 6342969600 ∷ []))
   -- "orders with their lines in use": the second line is no line, with line count 1 and 2
-  pub lines_in_use : map (λ n. order_ok (dims opened) (row_is_lem (positives (1 ∷ 1 ∷ 0 ∷ n ∷ 1 ∷ 1 ∷ 1 ∷ 1 ∷ 1 ∷ 1 ∷ 0 ∷ 4 ∷ 1 ∷ 1 ∷ 1 ∷ 0 ∷ [])))) (1 ∷ 2 ∷ [])
+  pub lines_in_use : map (λ n. order_ok (dims opened) (row_is (positives (1 ∷ 1 ∷ 0 ∷ n ∷ 1 ∷ 1 ∷ 1 ∷ 1 ∷ 1 ∷ 1 ∷ 0 ∷ 4 ∷ 1 ∷ 1 ∷ 1 ∷ 0 ∷ [])))) (1 ∷ 2 ∷ [])
       ≡ true ∷ false ∷ []
   -- "bytes 32 to 126, the last name's first byte no space"
   pub names : map (λ x. name_ok x 0)
       (replicate 32 126 ∷ (33 ∷ replicate 31 32) ∷ replicate 32 32 ∷ (replicate 31 126 ++ (127 ∷ [])) ∷ (33 ∷ replicate 30 32 ++ (31 ∷ [])) ∷ [])
       ≡ true ∷ true ∷ false ∷ false ∷ false ∷ []
   -- "every master field, on hand and name is in range and every moving field .. is 0 and every next order number 1"
-  pub new_warehouse_lem : Range (λ r. new_warehouse (row_is_lem r)) (replicate 2 (pos 0)) (positives (9999 ∷ 0 ∷ []))
-  pub new_district_lem : Range (λ r. new_district (row_is_lem r)) (positives (0 ∷ 0 ∷ 1 ∷ [])) (positives (9999 ∷ 0 ∷ 1 ∷ []))
-  pub new_customer_lem : Range (λ r. new_customer (row_is_lem r)) (replicate 6 (pos 0)) (positives (1 ∷ 9999 ∷ 0 ∷ 0 ∷ 0 ∷ 0 ∷ []))
-  pub new_stock_lem : Range (λ r. new_stock (row_is_lem r)) (replicate 4 (pos 0)) (positives (9999 ∷ 0 ∷ 0 ∷ 0 ∷ []))
+  pub new_warehouse_lem : Range (λ r. new_warehouse (row_is r)) (replicate 2 (pos 0)) (positives (9999 ∷ 0 ∷ []))
+  pub new_district_lem : Range (λ r. new_district (row_is r)) (positives (0 ∷ 0 ∷ 1 ∷ [])) (positives (9999 ∷ 0 ∷ 1 ∷ []))
+  pub new_customer_lem : Range (λ r. new_customer (row_is r)) (replicate 6 (pos 0)) (positives (1 ∷ 9999 ∷ 0 ∷ 0 ∷ 0 ∷ 0 ∷ []))
+  pub new_stock_lem : Range (λ r. new_stock (row_is r)) (replicate 4 (pos 0)) (positives (9999 ∷ 0 ∷ 0 ∷ 0 ∷ []))
 
 pub record Readings : Type 0 where
   pub figures : Figures

@@ -69,7 +69,7 @@ fn recovers(rt: &(impl Eprint + Clock), what: &str, error: Error) -> bool
 }
 
 // The bytes that one write took, and whether to go on.
-#[derive(Drop)]
+#[derive(Clone, Copy)]
 struct Taken {
     count: usize,
     going: bool,
@@ -128,7 +128,7 @@ pub fn put(rt: &(impl Print + Eprint + Clock), bytes: &[u8]) -> bool
 }
 
 // The bytes read to the front of a buffer, none at the end of the input; whether the read failed.
-#[derive(Drop)]
+#[derive(Clone, Copy)]
 pub struct Got {
     pub count: usize,
     pub failed: bool,
