@@ -6,7 +6,7 @@ mod common;
 use bookkeeper::kept;
 use common::lines::{split, Lines};
 use common::model::Model;
-use common::{command, copy, ended, files, finish, masters, new_book, run, run_book, spawn, with_dir, Ended, Temp, PROGRAM};
+use common::{alone, command, copy, ended, files, finish, masters, new_book, run, run_book, spawn, with_dir, Ended, Temp, PROGRAM};
 use std::ffi::OsStr;
 use std::fs::{self, File, Permissions};
 use std::io::{BufRead, BufReader, Read, Write};
@@ -79,6 +79,14 @@ impl Desk {
         self.output.take().map(|mut output| output.read_to_end(&mut out).expect("its output"));
         self.child.stderr.take().expect("its errors").read_to_string(&mut err).expect("its errors");
         Ended { status: ended(&mut self.child), out, err }
+    }
+}
+
+/// Waits until nobody reads what a process writes: one that was just started may have our end of the pipe a moment longer.
+fn unread(child: &Child) {
+    let mut output = File::options().write(true).open(format!("/proc/{}/fd/1", child.id())).expect("its output");
+    while output.write(b"\n").is_ok() {
+        std::thread::sleep(Duration::from_micros(100));
     }
 }
 
@@ -383,9 +391,12 @@ fn a_reader_that_goes_away() {
     let (_temp, dir, mut model) = book();
     let mut desk = Desk::new(&mut command(&run_arguments("100000", &dir)));
     assert_eq!(desk.ask(b"Q\t1\t1\t5\n"), model.answer(b"Q\t1\t1\t5\n"));
+    let guard = alone();
     desk.output = None;
+    unread(&desk.child);
     desk.input.as_mut().expect("its input").write_all(b"R\t6\nQ\t2\t1\t7\n").expect("it takes input");
     let said = desk.end().said(1);
+    drop(guard);
     assert!(said.contains("answers cannot be written to standard output: Broken pipe"), "{said}");
     // Both lines may have come at once, or one after the other.
     model.answer(b"R\t6\n");
@@ -404,7 +415,7 @@ fn standard_input_that_ends_or_fails() {
         assert_eq!(run_book(&dir, input).well(), model.answers(input), "{length} bytes");
     }
     let folder = File::open(&dir).expect("a folder");
-    let output = command(&run_arguments("1", &dir)).stdin(folder).output().expect("a run");
+    let output = spawn(command(&run_arguments("1", &dir)).stdin(folder).stdout(Stdio::piped()).stderr(Stdio::piped())).wait_with_output().expect("a run");
     assert_eq!((output.status.code(), output.stdout), (Some(1), Vec::new()));
     assert!(String::from_utf8_lossy(&output.stderr).contains("standard input cannot be read"));
     goes_on(&dir, &mut model);

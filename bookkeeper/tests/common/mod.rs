@@ -58,7 +58,8 @@ impl Drop for Temp {
     }
 }
 
-/// A process that is being started has the locks of this one for a moment: nobody starts one while a journal is open here.
+/// A process that is being started has the locks and the pipes of this one for a moment: nobody starts one while a journal is open here, or while it
+/// matters that a pipe has no reader.
 static STARTING: RwLock<()> = RwLock::new(());
 
 pub fn spawn(command: &mut Command) -> Child {
@@ -66,9 +67,14 @@ pub fn spawn(command: &mut Command) -> Child {
     command.spawn().expect("the program starts")
 }
 
-/// `kept::open`, with the guard that keeps others from starting a process.
+/// A guard that keeps others from starting a process.
+pub fn alone() -> RwLockReadGuard<'static, ()> {
+    STARTING.read().unwrap_or_else(|poisoned| poisoned.into_inner())
+}
+
+/// `kept::open`, with that guard.
 pub fn open(dir: &Path) -> (RwLockReadGuard<'static, ()>, bookkeeper::Result<(Kept, Writer)>) {
-    let guard = STARTING.read().unwrap_or_else(|poisoned| poisoned.into_inner());
+    let guard = alone();
     let opened = kept::open(dir);
     (guard, opened)
 }
