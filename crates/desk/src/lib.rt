@@ -260,15 +260,15 @@ fn serve(
     false
 }
 
-// Whether opening accepted the book, and whether all input was read, every answer taken and the output closed.
+// Whether opening accepted the book, and whether all input was read, every answer taken and nothing amiss with the output at its end.
 #[derive(Clone, Copy)]
 pub struct Ended {
     pub opened: bool,
     pub whole: bool,
 }
 
-// The program: its book, opened, with last orders all 0, texts all spaces and the table 10, 91, and standard input answered on it; where all went well the output is closed. Opened is
-// true, for opening accepts the book.
+// The program: its book, opened, with last orders all 0, texts all spaces and the table 10, 91, and standard input answered on it; where all went well the
+// output is looked at once more. Opened is true, for opening accepts the book.
 pub fn run(rt: &(impl Input + Print + Eprint + Clock + Files), out: &impl AsFd) -> Ended
     ensures { Ran program_book program_names program_topup result.opened }
 {

@@ -1,2 +1,2 @@
--- The laws of the crate, and what its walks share.
+-- The laws of the crate.
 pub mod Steps
