@@ -1,6 +1,6 @@
 -- What a writer of answers leaves.
 -- Assumes nothing.
-use Rattle.std.specs.Prelude.{◌≡◌, Bool, ◌&&◌, cond, List, [], ℕ, leb, ℤ, length}
+use Rattle.std.specs.Prelude.{◌≡◌, Bool, ◌&&◌, cond, Option, Some, None, List, [], ℕ, leb, ℤ, length}
 use Rattle.model.specs.declared.RequestOutcome.{RequestOutcome}
 use Rattle.model.specs.declared.RequestOutcome.TheVariants as RequestCase
 use Rattle.model.specs.Answer.{request_says}
@@ -26,14 +26,14 @@ outcome_line o orders shown = text_of (letter (sample o)) (told (sample o) (requ
 abbrev pub has_room : List ℕ → List ℤ → Bool
 has_room buffer shown = leb 2048 (length buffer) && leb (length shown) 75
 
--- a line at the front of a buffer where there is room, and the length that is answered
+-- a line at the front of a buffer where there is room, and the length that is answered; none where there is none
 abbrev pub with_line : Bool → List ℕ → List ℕ → List ℕ
 with_line t text buffer = cond t (on_front text buffer) buffer
 
-abbrev pub length_if : Bool → List ℕ → ℕ
-length_if t text = cond t (length text) 0
+abbrev pub length_if : Bool → List ℕ → Option ℕ
+length_if t text = cond t (Some (length text)) None
 
 -- what a writer of answers leaves: a line where there is room, and its length
-pub record Answered (t : Bool) (text old new : List ℕ) (n : ℕ) : Type 0 where
+pub record Answered (t : Bool) (text old new : List ℕ) (n : Option ℕ) : Type 0 where
   pub long : n ≡ length_if t text
   pub bytes : new ≡ with_line t text old

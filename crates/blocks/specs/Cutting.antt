@@ -1,6 +1,8 @@
 -- Bytes cut into lines: the lines that bytes end, the line that is not yet ended, and a block cut at a line's end.
 -- Assumes nothing.
-use Rattle.std.specs.Prelude.{◌≡◌, Bool, false, cond, List, [], ◌∷◌, ◌++◌, ℕ, ◌+◌, ◌-◌, ◌≤◌, ltb, eqb, length, take, drop}
+use Rattle.std.specs.Prelude.{◌≡◌, Bool, true, false, cond, List, [], ◌∷◌, ◌++◌, ℕ, ◌+◌, ◌-◌, ◌≤◌, ltb, eqb, length, take, drop}
+use Rattle.blocks.specs.declared.Taken.{Taken}
+use Rattle.blocks.specs.declared.Taken.TheVariants.{Ended, Unended}
 
 -- a line so far and one byte more: the first 1,024 bytes are kept
 abbrev pub kept : List ℕ → ℕ → List ℕ
@@ -34,3 +36,8 @@ pub record CutOff (p block : List ℕ) (at : ℕ) (line : List ℕ) (len next : 
   pub lines : lines_in p (between block at next) ≡ cond ended (take len line ∷ []) []
   pub rest : line_after p (between block at next) ≡ cond ended [] (take len line)
   pub whole : ended ≡ false → next ≡ length block
+
+-- what cutting answers
+abbrev pub CutSays : List ℕ → List ℕ → ℕ → List ℕ → Taken → Type 0
+CutSays p block at line (Ended len next) = CutOff p block at line len next true
+CutSays p block at line (Unended len) = CutOff p block at line len (length block) false

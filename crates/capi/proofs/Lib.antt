@@ -1,2 +1,2 @@
 -- The modules of the crate's proofs that belong to no one function.
-pub mod Orders
+pub mod Reading

@@ -1,7 +1,7 @@
 -- What the contract of each exported function says: the numbers put out, and what is left of the slices lent to be written; every book and every request,
 -- refused ones included.
 -- Assumes nothing.
-use Rattle.std.specs.Prelude.{◌≡◌, List, ℕ, ◌+◌, ◌≤◌, ℤ, length, get_or}
+use Rattle.std.specs.Prelude.{◌≡◌, List, [], ◌++◌, ℕ, ◌+◌, ◌-◌, ◌≤◌, ℤ, length, get_or, replicate}
 use Rattle.model.specs.declared.Dims.{Dims}
 use Rattle.model.specs.declared.Line.{Line}
 use Rattle.model.specs.declared.NewOrder.{NewOrder}
@@ -11,8 +11,7 @@ use Rattle.model.specs.declared.Waiting.{Waiting}
 use Rattle.model.specs.declared.Queue.{Queue}
 use Rattle.model.specs.declared.OrderStatus.{OrderStatus}
 use Rattle.model.specs.declared.StockLevel.{StockLevel}
-use Rattle.model.specs.declared.ReadAnswer.{ReadAnswer}
-use Rattle.model.specs.Names.{Who}
+use Rattle.model.specs.Names.{Who, by_number, by_name}
 use Rattle.model.specs.Opening.{opening_answer}
 use Rattle.model.specs.NewOrder.{new_order_answer, new_order_book, new_order_last}
 use Rattle.model.specs.Payment.{payment_answer, payment_book, payment_notes}
@@ -20,8 +19,9 @@ use Rattle.model.specs.Delivery.{delivery_answer, delivery_orders, delivery_book
 use Rattle.model.specs.Queue.{queue_answer, queue_after, run_answer, run_orders, run_book, run_queue, run_buffer}
 use Rattle.model.specs.OrderStatus.{status_answer, status_part}
 use Rattle.model.specs.StockLevel.{stock_level_answer}
-use Rattle.model.specs.Request.{Request, lines_of}
-use Rattle.model.specs.RequestLine.{write_answer, write_buffer}
+use Rattle.model.specs.Request.{Request, new_order, payment, delivery, order_status, stock_level, no_line}
+use Rattle.model.specs.RequestLine.{Reading, read, no_form, read_fault, write_answer, write_buffer}
+use Rattle.lines.specs.Fields.{lines_beside}
 use Rattle.flat.specs.Flat.{bare_out, one_out, two_out, three_out, balance_out, status_out}
 use Rattle.flat.specs.FlatLines.{read_out}
 use Rattle.places.specs.declared.Spot.{Spot}
@@ -68,11 +68,24 @@ pub record StatusC (b : List ℤ) (names : List ℕ) (last : List ℤ) (q : Orde
 pub record StockLevelC (b : List ℤ) (names : List ℕ) (q : StockLevel) (out : List ℕ) : Type 0 where
   pub answers : out ≡ one_out (stock_level_answer b names q)
 
--- what reading answers, in numbers, and the lines and the last name beside it
-pub record ReadC (r : ReadAnswer) (out : List ℕ) (lines : List Line) (name : List ℕ) : Type 0 where
-  pub answers : out ≡ read_out r.outcome r.lines.count r.name.length
-  pub lines_are : lines ≡ lines_of r.lines.items r.lines.supplies r.lines.quantities
-  pub name_is : name ≡ r.name.bytes
+-- the last name that was read
+abbrev pub name_in : Who → List ℕ
+name_in (by_number c) = []
+name_in (by_name name) = name
+
+abbrev pub name_read : Reading → List ℕ
+name_read (read (new_order q lines)) = []
+name_read (read (payment q who)) = name_in who
+name_read (read (delivery q)) = []
+name_read (read (order_status q who)) = name_in who
+name_read (read (stock_level q)) = []
+name_read no_form = []
+
+-- what reading answers, in numbers, and beside it the lines and the last name, 0 where they have no part in the request
+pub record ReadC (r : Reading) (out : List ℕ) (lines : List Line) (name : List ℕ) : Type 0 where
+  pub answers : out ≡ read_out (read_fault r) r
+  pub lines_are : lines ≡ lines_beside r ++ replicate (15 - length (lines_beside r)) no_line
+  pub name_is : name ≡ name_read r ++ replicate (16 - length (name_read r)) 0
 
 -- a request's line written to the front of a buffer
 pub record WriteC (buffer : List ℕ) (r : Request) (out left : List ℕ) : Type 0 where

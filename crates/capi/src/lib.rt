@@ -1,18 +1,17 @@
-// The calls for C and Rust: slices as pointer and length, answers as flat numbers that the caller lends.
+// The calls for C and Rust: slices as pointer and length, answers as flat numbers that the caller lends. C takes a request's numbers one by one, so each call
+// puts its request together itself.
 #![tactic(auto)]
 
-ghost use Rattle.std.specs.Prelude.{◌≡◌, List, []};
-ghost use Rattle.model.specs.Names.{who_of};
+ghost use Rattle.std.specs.Prelude.{◌≡◌, ◌-◌, ◌≤◌, ◌++◌, length, replicate};
 ghost use Rattle.flat.specs.Flat.{selection_of, new_order_of, payment_of, delivery_of, waiting_of, status_of, stock_level_of};
-ghost use Rattle.model.specs.declared.Line.{Line};
-ghost use Rattle.model.specs.Request.{request_of, new_order, payment, delivery, order_status, stock_level};
-ghost use Rattle.model.specs.RequestLine.{read_line, stored};
-ghost use Rattle.records.specs.Gathered.{Gathered};
+ghost use Rattle.model.specs.Request.{request_of, lines_in, new_order, payment, delivery, order_status, stock_level};
+ghost use Rattle.model.specs.RequestLine.{read_line, read_as};
 ghost use Rattle.places.specs.Places.{dims_of, spot_of};
-ghost use Rattle.capi.specs.Calls.{OpeningC, NewOrderC, PaymentC, DeliveryC, QueueC, RunC, StatusC, StockLevelC, ReadC, WriteC, PlacesC};
+ghost use Rattle.capi.specs.Calls.{OpeningC, NewOrderC, PaymentC, DeliveryC, QueueC, RunC, StatusC, StockLevelC, ReadC, WriteC, PlacesC, name_read};
 
 use model::{
-    Delivery, Form, Line, Lines, NewOrder, OrderStatus, Payment, Queue, StockLevel, Waiting,
+    Delivery, Form, Line, NewOrder, OrderStatus, Payment, Queue, ReadAnswer, Selection, StockLevel,
+    Waiting,
 };
 
 // The version of these functions: BOOK_VERSION of include/book.h.
@@ -28,9 +27,7 @@ pub extern "C" fn book_version() -> u64
 pub extern "C" fn book_opening(nums: &[i64], names: &[u8], topup: &[i64], out: &mut [u64; 2])
     ensures { OpeningC nums.now names.now topup.now out.new }
 {
-    let a = opening::opening(nums, names, topup);
-    let o = a.outcome;
-    *out = flat::opening_out(o);
+    *out = flat::opening_out(opening::opening(nums, names, topup).outcome);
 }
 
 // New-Order; the lines are a lent slice of records of any length, read where they lie. last has the last order of each customer, topup the margin and the
@@ -59,7 +56,7 @@ pub extern "C" fn book_new_order(
         date,
     };
     let a = new_order::new_order(nums, names, last, topup, q, lines);
-    flat::put_new_order(out, a)
+    *out = flat::new_order_out(a.outcome);
 }
 
 // Payment by customer number, or by last name where named is true; notes has the text of each customer.
@@ -81,7 +78,7 @@ pub extern "C" fn book_payment(
     balance: &mut [i64; 1],
 )
     ensures { PaymentC nums.old names.now notes.old (payment_of warehouse district custwarehouse custdistrict date amount)
-        (who_of (selection_of named number) name.now) out.new balance.new nums.new notes.new }
+        (selection_of named number name.now) out.new balance.new nums.new notes.new }
 {
     let q = Payment {
         warehouse,
@@ -91,11 +88,10 @@ pub extern "C" fn book_payment(
         date,
         amount,
     };
-    let who = flat::selection(named, number);
-    let a = payment::payment(nums, names, notes, q, who, name);
-    let o = a.outcome;
-    *out = flat::payment_out(o);
-    *balance = flat::payment_balance(o);
+    let who = flat::selection(named, number, name);
+    let a = payment::payment(nums, names, notes, q, who);
+    *out = flat::payment_out(a.outcome);
+    *balance = flat::payment_balance(a.outcome);
 }
 
 // Delivery; the ten order numbers go to orders.
@@ -118,7 +114,9 @@ pub extern "C" fn book_delivery(
         date,
     };
     let a = delivery::delivery(nums, names, q);
-    flat::put_delivery(out, orders, a)
+    let numbers = a.orders;
+    *out = flat::delivery_out(a.outcome);
+    *orders = numbers;
 }
 
 // Queues a Delivery behind those that wait; date is the queuing date.
@@ -138,7 +136,7 @@ pub extern "C" fn book_queue_delivery(
         carrier,
     };
     let a = queue::queue_delivery(queue, x);
-    flat::put_queue(out, a)
+    *out = flat::queue_out(a.outcome);
 }
 
 // Runs the oldest of the Deliveries that wait; date is the finishing date, and the result line goes to the buffer's front.
@@ -156,7 +154,9 @@ pub extern "C" fn book_run_delivery(
         out.new orders.new nums.new queue.new buffer.new }
 {
     let a = queue::run_delivery(nums, names, queue, date, buffer);
-    flat::put_delivery(out, orders, a)
+    let numbers = a.orders;
+    *out = flat::delivery_out(a.outcome);
+    *orders = numbers;
 }
 
 // Order-Status by customer number, or by last name where named is true; the lines are the part of nums that out names at its end;
@@ -174,19 +174,17 @@ pub extern "C" fn book_order_status(
     out: &mut [u64; 8],
     balance: &mut [i64; 1],
 )
-    ensures { StatusC nums.now names.now last.now (status_of warehouse district) (who_of (selection_of named number) name.now)
+    ensures { StatusC nums.now names.now last.now (status_of warehouse district) (selection_of named number name.now)
         out.new balance.new }
 {
     let q = OrderStatus {
         warehouse,
         district,
     };
-    let who = flat::selection(named, number);
-    let s = order_status::status_shown(nums, names, last, q, who, name);
-    let o = s.outcome;
-    let part = s.part;
-    *out = flat::status_out(o, part.from, part.count);
-    *balance = flat::status_balance(o);
+    let who = flat::selection(named, number, name);
+    let s = order_status::status_shown(nums, names, last, q, who);
+    *out = flat::status_out(s.outcome, s.part);
+    *balance = flat::status_balance(s.outcome);
 }
 
 // Stock-Level.
@@ -206,23 +204,30 @@ pub extern "C" fn book_stock_level(
         district,
         threshold,
     };
-    let a = stock_level::stock_level(nums, names, q);
-    let o = a.outcome;
-    *out = flat::stock_level_out(o);
+    *out = flat::stock_level_out(stock_level::stock_level(nums, names, q).outcome);
 }
 
-// A request line read, but for the order's lines, which it returns.
-fn read_beside(line: &[u8], out: &mut [u64; 13], name: &mut [u8; 16]) -> [Line; 15]
-    ensures { ReadC (stored (read_line line.now)) out.new result name.new }
+// The last name that was read, none where who is a number or is not given.
+fn name_read<'a>(a: &ReadAnswer<'a>) -> &'a [u8]
+    ensures { result.now ≡ name_read (read_as a.now.outcome (lines_in a.now.lines)) }
 {
-    let a = lines::read_line(line);
-    let o = a.outcome;
-    let l = a.lines;
-    let n = a.name;
-    *out = flat::read_out(o, l.count, n.length);
-    let bytes = n.bytes;
-    *name = bytes;
-    records::listed(l)
+    match a.outcome {
+        Ok(
+            Form::Payment(_, Selection::LastName(name))
+            | Form::OrderStatus(_, Selection::LastName(name)),
+        ) => name,
+        _ => &[],
+    }
+}
+
+// A last name in an array of its own, zeros behind it.
+fn padded(name: &[u8]) -> [u8; 16]
+    requires { length name.now ≤ 16 }
+    ensures { result ≡ name.now ++ replicate (16 - length name.now) 0 }
+{
+    let mut bytes = [0; 16];
+    bytes[..name.len()].copy_from_slice(name);
+    bytes
 }
 
 // A request line read; the order's lines and the last name go to arrays of their own, 0 where they have no part in the request.
@@ -233,39 +238,20 @@ pub extern "C" fn book_read_line(
     lines: &mut [Line; 15],
     name: &mut [u8; 16],
 )
-    ensures { ReadC (stored (read_line line.now)) out.new lines.new name.new }
+    ensures { ReadC (read_line line.now) out.new lines.new name.new }
 {
-    let ls = read_beside(line, out, name);
-    *lines = ls;
+    let a = lines::read_line(line);
+    *out = flat::read_out(&a);
+    let read = a.lines.lines;
+    *lines = read;
+    *name = padded(name_read(&a));
 }
 
-// A New-Order's line written, its lines gathered in arrays; more than 15 lines have no form.
-fn write_order(buffer: &mut [u8], q: NewOrder, l: Lines, out: &mut [u64; 3])
-    ensures { (lines : List Line) → Gathered lines l → WriteC buffer.old (new_order q lines) out.new buffer.new }
+// A request's line written to the front of a buffer.
+fn write(buffer: &mut [u8], form: Form, lines: &[Line], out: &mut [u64; 3])
+    ensures { WriteC buffer.old (request_of form.entry lines.now) out.new buffer.new }
 {
-    let count = l.count;
-    if 15 < count {
-        let a = writing::not_written();
-        let o = a.outcome;
-        *out = flat::write_out(o);
-        return;
-    }
-    let n = count as usize;
-    let items = l.items;
-    let supplies = l.supplies;
-    let quantities = l.quantities;
-    let none = [0u8; 1];
-    let form = Form::NewOrder(q);
-    let a = writing::write_line(
-        buffer,
-        form,
-        &items[0..n],
-        &supplies[0..n],
-        &quantities[0..n],
-        &none[0..0],
-    );
-    let o = a.outcome;
-    *out = flat::write_out(o);
+    *out = flat::write_out(writing::write_line(buffer, form, lines).outcome);
 }
 
 // A New-Order's line written to the front of a buffer; the lines are a lent slice of records of any length.
@@ -288,21 +274,7 @@ pub extern "C" fn book_write_new_order(
         customer,
         date,
     };
-    let l = records::gather(lines);
-    write_order(buffer, q, l, out)
-}
-
-// A request without lines written: its form, and the last name beside it.
-fn write_bare(buffer: &mut [u8], form: Form, name: &[u8]) -> [u64; 3]
-    ensures { WriteC buffer.old
-        (request_of form [] name.now)
-        result buffer.new }
-{
-    let none = [0u64; 1];
-    let empty = &none[0..0];
-    let a = writing::write_line(buffer, form, empty, empty, empty, name);
-    let o = a.outcome;
-    flat::write_out(o)
+    write(buffer, Form::NewOrder(q), lines, out)
 }
 
 // A Payment's line written to the front of a buffer.
@@ -321,7 +293,7 @@ pub extern "C" fn book_write_payment(
     out: &mut [u64; 3],
 )
     ensures { WriteC buffer.old
-        (payment (payment_of warehouse district custwarehouse custdistrict date amount) (who_of (selection_of named number) name.now))
+        (payment (payment_of warehouse district custwarehouse custdistrict date amount) (selection_of named number name.now))
         out.new buffer.new }
 {
     let q = Payment {
@@ -332,9 +304,8 @@ pub extern "C" fn book_write_payment(
         date,
         amount,
     };
-    let who = flat::selection(named, number);
-    let form = Form::Payment(q, who);
-    *out = write_bare(buffer, form, name);
+    let who = flat::selection(named, number, name);
+    write(buffer, Form::Payment(q, who), &[], out)
 }
 
 // A Delivery's line written to the front of a buffer.
@@ -350,13 +321,12 @@ pub extern "C" fn book_write_delivery(
         (delivery (delivery_of warehouse carrier date))
         out.new buffer.new }
 {
-    let form = Form::Delivery(Delivery {
+    let q = Delivery {
         warehouse,
         carrier,
         date,
-    });
-    let none = [0u8; 1];
-    *out = write_bare(buffer, form, &none[0..0]);
+    };
+    write(buffer, Form::Delivery(q), &[], out)
 }
 
 // An Order-Status's line written to the front of a buffer.
@@ -371,16 +341,15 @@ pub extern "C" fn book_write_order_status(
     out: &mut [u64; 3],
 )
     ensures { WriteC buffer.old
-        (order_status (status_of warehouse district) (who_of (selection_of named number) name.now))
+        (order_status (status_of warehouse district) (selection_of named number name.now))
         out.new buffer.new }
 {
     let q = OrderStatus {
         warehouse,
         district,
     };
-    let who = flat::selection(named, number);
-    let form = Form::OrderStatus(q, who);
-    *out = write_bare(buffer, form, name);
+    let who = flat::selection(named, number, name);
+    write(buffer, Form::OrderStatus(q, who), &[], out)
 }
 
 // A Stock-Level's line written to the front of a buffer.
@@ -396,13 +365,12 @@ pub extern "C" fn book_write_stock_level(
         (stock_level (stock_level_of warehouse district threshold))
         out.new buffer.new }
 {
-    let form = Form::StockLevel(StockLevel {
+    let q = StockLevel {
         warehouse,
         district,
         threshold,
-    });
-    let none = [0u8; 1];
-    *out = write_bare(buffer, form, &none[0..0]);
+    };
+    write(buffer, Form::StockLevel(q), &[], out)
 }
 
 // Where the rows of a book of these sizes stand; order is an order's slot, history a history row's.

@@ -16,7 +16,7 @@ or_below a b = go (below a) (below b) refl refl
     go false t p q = le-ltb (bit_or a b) (2 ^ 63) (omega (arith, ltb-false a (2 ^ 63) p, or_add_and a b, and_le_r a b))
 
 -- two numbers of a turn with a test each beside what the turns before have found
-pub sorted : (a b x s y t : Bool) → (((a && x) && y) && ((b && s) && t)) ≡ ((a && b) && ((x && s) && (y && t)))
+pub sorted : (a b x s y t : Bool) → ((a && (x && y)) && (b && (s && t))) ≡ ((a && b) && ((x && s) && (y && t)))
 sorted false b x s y t = refl
 sorted true false false s y t = refl
 sorted true false true s false t = refl

@@ -1,20 +1,20 @@
 -- Input in blocks: lines leave what the requests that they hold leave; so all input is answered.
 -- Assumes nothing.
-use mathlib.Core.Path.{◌≡◌, refl, sym, ◌∙◌, subst}
+use mathlib.Core.Path.{◌≡◌, refl, sym, ap, ◌∙◌, subst}
 use mathlib.Core.Bool.{Bool, true, false, cond}
 use mathlib.Core.List.{List, [], ◌∷◌, ◌++◌}
-use Prim.Native.Nat.{ℕ, ◌-◌, ◌≤◌}
+use Prim.Native.Nat.{ℕ, ◌+◌, ◌-◌, ◌≤◌}
 use native.Mathlib.Omega.{arith}
-use lib.Dec.{leb}
 use lib.ListN.{length, take}
-use borrow.Author.Tests.{le-leb}
+use lib.Seq.{take-length, take-add}
+use Rattle.std.specs.Prelude.{Result, Ok, Err, IsErr}
 use Rattle.model.specs.Request.{Lent}
 use Rattle.model.specs.RequestLine.{Reading, read, no_form, read_line}
 use Rattle.model.specs.AnswerLine.{left_after}
 use Rattle.model.specs.Tally.{after_all}
 use Rattle.blocks.specs.Cutting.{lines_in, line_after, between, Started, CutOff}
-use Rattle.blocks.proofs.Bytes.{lines_append, line_append, split_between, not_so}
-use Rattle.desk.specs.Step.{Stepped}
+use Rattle.stdio.specs.declared.Failed.{Failed}
+use Rattle.blocks.proofs.Bytes.{lines_append, line_append}
 use Rattle.desk.specs.Input.{left_by, with_request, requests_in, FedIn, Served}
 use Rattle.desk.proofs.Overlong.{unended, line_no_ten}
 
@@ -34,12 +34,11 @@ left_requests s (l ∷ ls) = left_requests (left_after s (read_line l)) ls ∙ g
     go (read r) = refl
     go no_form = refl
 
--- ── a line ──
-pub left-line : (s left : Lent) (line old new : List ℕ) (len n : ℕ) → length old ≡ 2048 → Stepped s (take (len - 0) line) old new n left → left ≡ left_after s (read_line (take len line))
-left-line s left line old new len n h w =
-    let e : len - 0 ≡ len = omega arith in
-    let r : leb 2048 (length old) ≡ true = le-leb 2048 (length old) (omega arith) in
-    rw (r, e) at w.leaves
+-- the bytes up to a place, from those up to an earlier one
+split_between : (block : List ℕ) (at next : ℕ) → at ≤ next → take next block ≡ take at block ++ between block at next
+split_between block at next h =
+    let e : at + (next - at) ≡ next = omega arith in
+    ap (λ (k : ℕ). take k block) (sym e) ∙ take-add at (next - at) block
 
 -- a block up to a place between two cuts: the lines that it ends there are answered
 pub record FedUpTo (s₀ : Lent) (p block : List ℕ) (s : Lent) (line : List ℕ) (n at : ℕ) : Type 0 where
@@ -65,21 +64,38 @@ module _ (s₀ : Lent) (p block : List ℕ) (s : Lent) (line line' : List ℕ) (
   cut_left =
       rw (up_to, lines_append (take at block) (between block at at') p, left_append s₀ (lines_in p (take at block)) (lines_in (line_after p (take at block)) (between block at at')), u.left, u.rest, c.lines)
 
-  -- the cut line is answered
-  pub line_fed : (left : Lent) → ended ≡ true → left ≡ left_after s (read_line (take n' line')) → length line' ≡ 1024 → FedUpTo s₀ p block left line' 0 at'
-  unfolding left_by
-  line_fed left e f room = record { room = room; short = omega arith; place = c.place; rest = rw e at cut_rest; left = rw e at cut_left ∙ sym f }
+-- the cut line is answered
+pub line_fed : (s₀ : Lent) (p block : List ℕ) (s left : Lent) (line line' : List ℕ) (n n' at at' : ℕ)
+    → FedUpTo s₀ p block s line n at → CutOff (take n line) block at line' n' at' true → left ≡ left_after s (read_line (take n' line')) → length line' ≡ 1024 → FedUpTo s₀ p block left line' 0 at'
+unfolding left_by
+line_fed s₀ p block s left line line' n n' at at' u c f room =
+    record {
+      room = room;
+      short = omega arith;
+      place = c.place;
+      rest = cut_rest s₀ p block s line line' n n' at at' true u c;
+      left = cut_left s₀ p block s line line' n n' at at' true u c ∙ sym f;
+    }
 
-  -- no line ended: the block is used up
-  pub block_fed : ended ≡ false → FedIn s₀ p block line' n' at' true s
-  unfolding left_by
-  block_fed e =
-      record { short = c.short; place = c.place; whole = λ _. c.whole e; rest = sym (rw e at cut_rest); leaves = sym (rw e at cut_left) }
+-- no line ended: the block is used up
+pub block_fed : (s₀ : Lent) (p block : List ℕ) (s : Lent) (line line' : List ℕ) (n n' at : ℕ)
+    → FedUpTo s₀ p block s line n at → CutOff (take n line) block at line' n' (length block) false → FedIn s₀ p block line' (Ok n') s
+unfolding left_by
+block_fed s₀ p block s line line' n n' at u c =
+    let all : take (length block) block ≡ block = take-length block in
+    let rest : line_after p (take (length block) block) ≡ take n' line' = cut_rest s₀ p block s line line' n n' at (length block) false u c in
+    record {
+      used = length block;
+      place = c.place;
+      whole = (refl, record { short = c.short; rest = sym (rw all at rest) });
+      closed = tt;
+      leaves = sym (cut_left s₀ p block s line line' n n' at (length block) false u c);
+    }
 
 -- the output is closed
-pub closed_fed : (s₀ : Lent) (p block : List ℕ) (s : Lent) (line : List ℕ) (n at : ℕ) → FedUpTo s₀ p block s line n at → FedIn s₀ p block line n at false s
-closed_fed s₀ p block s line n at u =
-    record { short = u.short; place = u.place; whole = λ e. not_so (sym e); rest = sym u.rest; leaves = sym u.left }
+pub closed_fed : (s₀ : Lent) (p block : List ℕ) (s : Lent) (line : List ℕ) (at : ℕ) (r : Result ℕ Failed) → IsErr r → FedUpTo s₀ p block s line 0 at → FedIn s₀ p block line r s
+closed_fed s₀ p block s line at (Ok len) h u = absurd (let z : ◌≡◌ {A = ℕ} 0 1 = cc in omega arith)
+closed_fed s₀ p block s line at (Err e) h u = record { used = at; place = u.place; whole = tt; closed = u.rest; leaves = sym u.left }
 
 -- ── all input ──
 -- the input so far: the lines that it ends are answered, and the rest is the line so far
@@ -94,18 +110,28 @@ pub none-served : (s : Lent) (line : List ℕ) → length line ≡ 1024 → Serv
 unfolding lines_in line_after left_by
 none-served s line h = record { room = h; short = omega arith; input = []; rest = refl; left = refl }
 
--- a block more, or as much of it as was used
-pub block_served : (s₀ s left : Lent) (line line' block : List ℕ) (len len' used : ℕ) (going : Bool)
-    → ServedUpTo s₀ s line len → FedIn s (take len line) block line' len' used going left → length line' ≡ 1024 → ServedUpTo s₀ left line' len'
-block_served s₀ s left line line' block len len' used going u f room =
-    let more = take used block in
-    record {
-      room = room;
-      short = f.short;
-      input = u.input ++ more;
-      rest = rw (line_append u.input more [], u.rest) (sym f.rest);
-      left = rw (lines_append u.input more [], left_append s₀ (lines_in [] u.input) (lines_in (line_after [] u.input) more), u.left, u.rest) (sym f.leaves);
-    }
+module _ (s₀ s left : Lent) (line line' block : List ℕ) (len : ℕ) (u : ServedUpTo s₀ s line len) where
+  more_left : (more : List ℕ) → left ≡ left_by s (lines_in (take len line) more) → left_by s₀ (lines_in [] (u.input ++ more)) ≡ left
+  more_left more e =
+      rw (lines_append u.input more [], left_append s₀ (lines_in [] u.input) (lines_in (line_after [] u.input) more), u.left, u.rest) (sym e)
+
+  -- a block more
+  pub block_served : (len' : ℕ) → FedIn s (take len line) block line' (Ok len') left → length line' ≡ 1024 → ServedUpTo s₀ left line' len'
+  block_served len' f room =
+      let all : take f.used block ≡ block = rw f.whole.0 (take-length block) in
+      record {
+        room = room;
+        short = f.whole.1.short;
+        input = u.input ++ block;
+        rest = rw (line_append u.input block [], u.rest) (sym f.whole.1.rest);
+        left = more_left block (rw all at f.leaves);
+      }
+
+  -- as much of a block as was used
+  pub part-served : (e : Failed) → FedIn s (take len line) block line' (Err e) left → Served s₀ left
+  part-served e f =
+      let more = take f.used block in
+      record { input = u.input ++ more; leaves = sym (more_left more f.leaves) ∙ left_requests s₀ (lines_in [] (u.input ++ more)) }
 
 module _ (s₀ s : Lent) (line : List ℕ) (len : ℕ) (u : ServedUpTo s₀ s line len) where
   pub input-served : Served s₀ s

@@ -8,7 +8,7 @@ use Prim.Native.Nat.{ℕ}
 use native.Mathlib.Omega.{arith}
 use lib.Dec.{eqb}
 use lib.IntN.{ℤ, pos}
-use Rattle.model.specs.declared.Refusal.{Refusal}
+use Rattle.model.specs.Tests.{Refusal}
 use Rattle.model.specs.Answer.{Answer, committed, refused, answer_by}
 use Rattle.model.specs.Head.{dims}
 use Rattle.model.specs.Opening.{Accepted}
@@ -137,3 +137,7 @@ program_noted input = notes_serve program refl (held_in input)
 -- whatever bytes come in: no request is refused by 17
 pub program_topped : (input : List ℕ) → NeverBy 17 (done_all program (held_in input))
 program_topped input = table_serves program ((opening_accepts program_book program_names program_topup).0 accepted).1 (held_in input)
+
+-- what is lent is the program's where numbers, names and table are
+pub as_program : (b : List ℤ) (names : List ℕ) (topup : List ℤ) → b ≡ program_book → names ≡ program_names → topup ≡ program_topup → lent b names program_last program_notes topup ≡ program
+as_program b names topup p q r = rw (p, q, r)

@@ -1,6 +1,6 @@
 -- The program's book as code fills it.
 -- Assumes nothing.
-use Rattle.std.specs.Prelude.{List, ◌∷◌, ◌++◌, ℕ, zero, suc, ◌+◌, ◌*◌, ◌%◌, ℤ, pos, set, get_or, replicate}
+use Rattle.std.specs.Prelude.{List, ◌∷◌, ◌++◌, ℕ, zero, suc, ◌+◌, ◌*◌, ℤ, pos, set, replicate}
 
 -- W, C, I, O, H, and the warehouse's tax
 unfoldable pub head_to : List ℤ → List ℤ
@@ -23,8 +23,3 @@ stocks_to (suc k) b = set (stocks_to k b) (163 + 4 * k) (pos 20)
 -- ALM, EVA and ALM, BO
 abbrev pub two_names : List ℕ
 two_names = (65 ∷ 76 ∷ 77 ∷ replicate 13 32) ++ (69 ∷ 86 ∷ 65 ∷ replicate 13 32) ++ (65 ∷ 76 ∷ 77 ∷ replicate 13 32) ++ (66 ∷ 79 ∷ replicate 14 32)
-
--- the first n name bytes: a district's 64 again and again
-unfoldable pub names_to : List ℕ → ℕ → List ℕ → List ℕ
-names_to text zero names = names
-names_to text (suc n) names = set (names_to text n names) n (get_or text (n % 64) 0)

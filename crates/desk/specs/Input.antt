@@ -1,6 +1,7 @@
 -- Input in blocks: what the lines of a block leave, and the requests that they hold; input as a whole.
 -- Assumes nothing.
-use Rattle.std.specs.Prelude.{◌≡◌, Bool, true, List, [], ◌∷◌, ℕ, ◌≤◌, length, take}
+use Rattle.std.specs.Prelude.{◌≡◌, List, [], ◌∷◌, ℕ, ◌≤◌, length, take, Result, IfOk, OnErr}
+use Rattle.stdio.specs.declared.Failed.{Failed}
 use Rattle.model.specs.Request.{Request, Lent}
 use Rattle.model.specs.RequestLine.{Reading, read, no_form, read_line}
 use Rattle.model.specs.AnswerLine.{left_after}
@@ -25,12 +26,18 @@ requests_in (l ∷ ls) = with_request (read_line l) (requests_in ls)
 abbrev pub held_in : List ℕ → List Request
 held_in input = requests_in (lines_in [] input)
 
--- a block after the line so far `p`: of what is lent before, the bytes used of the block, and what is lent after; all are used while the output is open
-pub record FedIn (s : Lent) (p block line : List ℕ) (len used : ℕ) (going : Bool) (left : Lent) : Type 0 where
+-- the line so far after all of a block: its length
+pub record LineLeft (p block line : List ℕ) (len : ℕ) : Type 0 where
   pub short : len ≤ 1024
+  pub rest : take len line ≡ line_after p block
+
+-- a block after the line so far `p`: of what is lent before, the bytes used of the block, and what is lent after; all are used where the output took each
+-- answer, else up to the end of the line whose answer it did not take
+pub record FedIn (s : Lent) (p block line : List ℕ) (r : Result ℕ Failed) (left : Lent) : Type 0 where
+  pub used : ℕ
   pub place : used ≤ length block
-  pub whole : going ≡ true → used ≡ length block
-  pub rest : take len line ≡ line_after p (take used block)
+  pub whole : IfOk r (λ len. (used ≡ length block) × LineLeft p block line len)
+  pub closed : OnErr r (line_after p (take used block) ≡ [])
   pub leaves : left ≡ left_by s (lines_in p (take used block))
 
 -- what is lent after is what the requests of some input leave of what is lent before; that it is standard input no contract can say

@@ -1,27 +1,29 @@
 -- One line answered, the program's book opened, and an answer that speaks of no damage.
 -- Assumes nothing.
-use Rattle.std.specs.Prelude.{◌≡◌, Bool, true, false, cond, List, ◌∷◌, ◌≢◌, ℕ, leb, ℤ, pos, length}
+use Rattle.std.specs.Prelude.{◌≡◌, Bool, true, false, List, ◌∷◌, ◌≢◌, ℕ, ℤ, pos, length, Result, Ok, Err}
 use Rattle.model.specs.Answer.{Answer, committed, refused}
 use Rattle.model.specs.Opening.{opening_answer}
 use Rattle.model.specs.Request.{Lent}
-use Rattle.model.specs.Text.{text_of}
+use Rattle.model.specs.Text.{text_of, on_front}
 use Rattle.model.specs.RequestLine.{read_line}
 use Rattle.model.specs.AnswerLine.{printed_for, left_after}
-use Rattle.answers.specs.Writing.{with_line, length_if}
-
--- a buffer with room for any answer
-abbrev pub roomy : List ℕ → Bool
-roomy out = leb 2048 (length out)
+use Rattle.desk.specs.declared.Stopped.{Stopped}
 
 -- of what is lent before, the line, the buffer before and after, the length that is answered, and what is lent after
 pub record Stepped (s : Lent) (line old new : List ℕ) (n : ℕ) (left : Lent) : Type 0 where
-  pub long : n ≡ length_if (roomy old) (printed_for s (read_line line))
-  pub bytes : new ≡ with_line (roomy old) (printed_for s (read_line line)) old
-  pub leaves : left ≡ cond (roomy old) (left_after s (read_line line)) s
+  pub long : n ≡ length (printed_for s (read_line line))
+  pub bytes : new ≡ on_front (printed_for s (read_line line)) old
+  pub leaves : left ≡ left_after s (read_line line)
 
 abbrev pub is_committed : Answer → Bool
 is_committed (committed figures) = true
 is_committed (refused r) = false
+
+-- whether opening accepted the program's book
+abbrev pub was_opened : Result Unit Stopped → Bool
+was_opened (Ok x) = true
+was_opened (Err (Stopped.Failed e)) = true
+was_opened (Err (Stopped.Refused r)) = false
 
 -- a program's book, names and table: opening accepts them where its answer is true
 pub record Ran (b : List ℤ) (names : List ℕ) (topup : List ℤ) (r : Bool) : Type 0 where

@@ -1,11 +1,11 @@
 -- A request carried out as the model says: its answer, what stands beside it, and what it leaves of all that is lent.
 -- Assumes nothing.
-use Rattle.std.specs.Prelude.{◌≡◌, List, ℕ, ◌+◌, ◌≤◌, ℤ, length}
+use Rattle.std.specs.Prelude.{◌≡◌, ℕ, ◌+◌, ◌≤◌, length}
 use Rattle.model.specs.declared.RequestAnswer.{RequestAnswer}
 use Rattle.model.specs.declared.RequestOutcome.{RequestOutcome}
 use Rattle.model.specs.declared.RequestOutcome.TheVariants as RequestCase
 use Rattle.model.specs.Answer.{request_says}
-use Rattle.model.specs.Request.{Request, Lent, lent, answer_of, orders_of, shown_part, after}
+use Rattle.model.specs.Request.{Request, Lent, answer_of, orders_of, shown_part, after}
 use Rattle.model.specs.RequestLine.{letter}
 
 -- the letter of the requests that an outcome answers
@@ -24,12 +24,3 @@ pub record Carried (s : Lent) (q : Request) (r : RequestAnswer) (left : Lent) : 
   pub within : r.part.from + r.part.count ≤ length left.nums
   pub shows : r.part ≡ shown_part s q
   pub leaves : left ≡ after s q
-
--- a request of a kind that does not take a slice, whatever that slice is
-module _ {A : Type 0} where
-  abbrev pub Whatever : (A → Type 0) → Type 0
-  Whatever P = (x : A) → P x
-
--- .. of a kind that takes numbers and names alone
-abbrev pub CarriedBeside : List ℤ → List ℕ → Request → RequestAnswer → List ℤ → Type 0
-CarriedBeside b names q r left = Whatever (λ last. Whatever (λ notes. Whatever (λ topup. Carried (lent b names last notes topup) q r (lent left names last notes topup))))

@@ -1,34 +1,22 @@
 // One request of any kind, carried out on the book.
-#![tactic(auto)]
+#![tactic(auto, unfolding(model::specs::Request::answer_of, model::specs::Request::orders_of, model::specs::Request::shown_part, model::specs::Request::nums_after, model::specs::Request::last_after, model::specs::Request::notes_after))]
 
-ghost use Rattle.model.specs.Names.{who_of};
-ghost use Rattle.model.specs.Request.{lent, request_of, lines_of, new_order, payment, delivery, order_status, stock_level};
-ghost use Rattle.engine.specs.Carried.{Carried, Whatever, CarriedBeside};
+ghost use Rattle.std.specs.Prelude.{◌≡◌, ◌+◌, ◌≤◌, length, replicate};
+ghost use Rattle.model.specs.OrderStatus.{empty_part, part_of};
+ghost use Rattle.model.specs.Request.{lent, request_of};
+ghost use Rattle.model.specs.Request as Request;
+ghost use Rattle.engine.specs.Carried.{Carried};
 
-use model::{
-    Delivery, Form, NewOrder, OrderStatus, Part, Payment, RequestAnswer, RequestOutcome, Selection,
-    StockLevel,
-};
+use model::{Form, Line, Part, RequestAnswer, RequestOutcome};
+use std::marker::Model;
 
-// New-Order, its lines as three slices, whatever the texts are.
-fn new_order(
-    b: &mut [i64],
-    names: &[u8],
-    last: &mut [i64],
-    topup: &[i64],
-    q: NewOrder,
-    items: &[u64],
-    supplies: &[u64],
-    quantities: &[u64],
-) -> RequestAnswer
-    ensures { Whatever (λ notes. Carried (lent b.old names.now last.old notes topup.now)
-        (new_order q (lines_of items.now supplies.now quantities.now))
-        result (lent b.new names.now last.new notes topup.now)) }
+// An outcome that has no order numbers and shows no part.
+fn alone(outcome: RequestOutcome) -> RequestAnswer
+    ensures outcome { result.outcome ≡ outcome }
+    ensures orders { result.orders ≡ replicate 10 0 }
+    ensures part { result.part ≡ empty_part }
 {
-    let a = new_order::new_order_split(b, names, last, topup, q, items, supplies, quantities);
-    let o = a.outcome;
-    let outcome = RequestOutcome::NewOrder(o);
-    let orders = [0u64; 10];
+    let orders = [0; 10];
     let part = Part { from: 0, count: 0 };
     RequestAnswer {
         outcome,
@@ -37,110 +25,86 @@ fn new_order(
     }
 }
 
-// Payment, whatever last orders and table are.
-fn payment(
-    b: &mut [i64],
-    names: &[u8],
-    notes: &mut [u8],
-    q: Payment,
-    who: Selection,
-    name: &[u8],
-) -> RequestAnswer
-    ensures { Whatever (λ last. Whatever (λ topup. Carried (lent b.old names.now last notes.old topup)
-        (payment q (who_of who name.now))
-        result (lent b.new names.now last notes.new topup))) }
-{
-    let a = payment::payment(b, names, notes, q, who, name);
-    let o = a.outcome;
-    let outcome = RequestOutcome::Payment(o);
-    let orders = [0u64; 10];
-    let part = Part { from: 0, count: 0 };
-    RequestAnswer {
-        outcome,
-        orders,
-        part,
-    }
-}
-
-// Delivery, whatever last orders, texts and table are.
-fn delivery(b: &mut [i64], names: &[u8], q: Delivery) -> RequestAnswer
-    ensures { CarriedBeside b.old names.now (delivery q) result b.new }
-{
-    let a = delivery::delivery(b, names, q);
-    let o = a.outcome;
-    let outcome = RequestOutcome::Delivery(o);
-    let orders = a.orders;
-    let part = Part { from: 0, count: 0 };
-    RequestAnswer {
-        outcome,
-        orders,
-        part,
-    }
-}
-
-// Order-Status, whatever texts and table are.
-fn order_status(
-    b: &[i64],
-    names: &[u8],
-    last: &[i64],
-    q: OrderStatus,
-    who: Selection,
-    name: &[u8],
-) -> RequestAnswer
-    ensures { Whatever (λ notes. Whatever (λ topup. Carried (lent b.now names.now last.now notes topup)
-        (order_status q (who_of who name.now))
-        result (lent b.now names.now last.now notes topup))) }
-{
-    let a = order_status::status_shown(b, names, last, q, who, name);
-    let o = a.outcome;
-    let outcome = RequestOutcome::OrderStatus(o);
-    let orders = [0u64; 10];
-    let part = a.part;
-    RequestAnswer {
-        outcome,
-        orders,
-        part,
-    }
-}
-
-// Stock-Level, whatever last orders, texts and table are.
-fn stock_level(b: &[i64], names: &[u8], q: StockLevel) -> RequestAnswer
-    ensures { CarriedBeside b.now names.now (stock_level q) result b.now }
-{
-    let a = stock_level::stock_level(b, names, q);
-    let o = a.outcome;
-    let outcome = RequestOutcome::StockLevel(o);
-    let orders = [0u64; 10];
-    let part = Part { from: 0, count: 0 };
-    RequestAnswer {
-        outcome,
-        orders,
-        part,
-    }
-}
-
-// A request of any kind: its form, and beside it the lines and the last name.
+// A request of any kind: its form, and beside it the lines.
 pub fn carry_out(
-    b: &mut [i64],
+    nums: &mut [i64],
     names: &[u8],
     last: &mut [i64],
     notes: &mut [u8],
     topup: &[i64],
     form: Form,
-    items: &[u64],
-    supplies: &[u64],
-    quantities: &[u64],
-    name: &[u8],
+    lines: &[Line],
 ) -> RequestAnswer
-    ensures { Carried (lent b.old names.now last.old notes.old topup.now)
-        (request_of form (lines_of items.now supplies.now quantities.now) name.now)
-        result (lent b.new names.now last.new notes.new topup.now) }
+    ensures { Carried (lent nums.old names.now last.old notes.old topup.now) (request_of form.entry lines.now)
+        result (lent nums.new names.now last.new notes.new topup.now) }
 {
     match form {
-        Form::NewOrder(q) => new_order(b, names, last, topup, q, items, supplies, quantities),
-        Form::Payment(q, who) => payment(b, names, notes, q, who, name),
-        Form::Delivery(q) => delivery(b, names, q),
-        Form::OrderStatus(q, who) => order_status(b, names, last, q, who, name),
-        Form::StockLevel(q) => stock_level(b, names, q),
+        Form::NewOrder(q) => {
+            let a = new_order::new_order(nums, names, last, topup, q, lines);
+            alone(RequestOutcome::NewOrder(a.outcome))
+        }
+        Form::Payment(q, who) => {
+            let a = payment::payment(nums, names, notes, q, who);
+            alone(RequestOutcome::Payment(a.outcome))
+        }
+        Form::Delivery(q) => {
+            let a = delivery::delivery(nums, names, q);
+            let orders = a.orders;
+            let outcome = RequestOutcome::Delivery(a.outcome);
+            RequestAnswer {
+                orders,
+                ..alone(outcome)
+            }
+        }
+        Form::OrderStatus(q, who) => {
+            let a = order_status::status_shown(nums, names, last, q, who);
+            let part = a.part;
+            let outcome = RequestOutcome::OrderStatus(a.outcome);
+            RequestAnswer {
+                part,
+                ..alone(outcome)
+            }
+        }
+        Form::StockLevel(q) => {
+            let a = stock_level::stock_level(nums, names, q);
+            alone(RequestOutcome::StockLevel(a.outcome))
+        }
+    }
+}
+
+// All that is lent through a list of calls: numbers, names, last orders, texts, table.
+#[derive(Drop)]
+pub struct Lent<'w, 'r> {
+    pub nums: &'w mut [i64],
+    pub names: &'r [u8],
+    pub last: &'w mut [i64],
+    pub notes: &'w mut [u8],
+    pub topup: &'r [i64],
+}
+
+impl<'w, 'r> Model for Lent<'w, 'r> {
+    ghost Value = { Request.Lent };
+
+    ghost view = { λ s. lent s.nums.now s.names.now s.last.now s.notes.now s.topup.now };
+}
+
+impl<'w, 'r> Lent<'w, 'r> {
+    // A request of any kind, carried out on it.
+    pub fn carry_out(&mut self, form: Form, lines: &[Line]) -> RequestAnswer
+        ensures { Carried self.old (request_of form.entry lines.now) result self.new }
+    {
+        let names = self.names;
+        let topup = self.topup;
+        carry_out(self.nums, names, self.last, self.notes, topup, form, lines)
+    }
+
+    // A part of the book's numbers.
+    pub fn part(&self, part: Part) -> &[i64]
+        requires { part.from + part.count ≤ length self.now.nums }
+        ensures { result.now ≡ part_of part self.now.nums }
+    {
+        let nums = &*self.nums;
+        let from = part.from as usize;
+        &nums[from..from + part.count as usize]
     }
 }

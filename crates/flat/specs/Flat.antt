@@ -1,8 +1,6 @@
 -- An answer as flat numbers: document 01's number, 0 where committed, its detail, then the figures, 0 where refused.
 -- Assumes nothing.
 use Rattle.std.specs.Prelude.{Bool, cond, List, [], ◌∷◌, ℕ, ℤ, pos, get_or}
-use Rattle.model.specs.declared.Selection.{Selection}
-use Rattle.model.specs.declared.Selection.TheVariants.{Number, LastName}
 use Rattle.model.specs.declared.Payment.{Payment}
 use Rattle.model.specs.declared.NewOrder.{NewOrder}
 use Rattle.model.specs.declared.Delivery.{Delivery}
@@ -12,6 +10,7 @@ use Rattle.model.specs.declared.Part.{Part}
 use Rattle.model.specs.declared.StockLevel.{StockLevel}
 use Rattle.model.specs.Numbers.{nat}
 use Rattle.model.specs.Answer.{Answer, committed, refused}
+use Rattle.model.specs.Names.{Who, by_number, by_name}
 
 abbrev pub number_in : Answer → ℕ
 number_in (committed figures) = 0
@@ -51,8 +50,8 @@ status_out a p =
     number_in a ∷ detail_in a ∷ nat (figure_in a 0) ∷ nat (figure_in a 2) ∷ nat (figure_in a 3) ∷ nat (figure_in a 4) ∷ p.from ∷ p.count ∷ []
 
 -- who: by the last name, or by the number
-abbrev pub selection_of : Bool → ℕ → Selection
-selection_of t number = cond t LastName (Number number)
+abbrev pub selection_of : Bool → ℕ → List ℕ → Who
+selection_of t number name = cond t (by_name name) (by_number number)
 
 -- the requests by their numbers
 abbrev pub new_order_of : ℕ → ℕ → ℕ → ℕ → NewOrder

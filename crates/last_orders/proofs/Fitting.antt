@@ -1,6 +1,6 @@
 -- A district's numbers by their addresses: they follow each other, and what refusal 13's first two tests say of them.
 -- Assumes nothing.
-use Rattle.std.proofs.Common.{◌≡◌, ℕ, ◌+◌, ◌-◌, ◌*◌, ◌≤◌, Bool, true, eqb, leb, List, length, get_or, set, ℤ, pos, ap, ◌∙◌, arith, eqb-true}
+use Rattle.std.proofs.Common.{◌≡◌, ℕ, ◌+◌, ◌-◌, ◌*◌, ◌≤◌, Bool, true, leb, List, length, get_or, set, ℤ, pos, ap, ◌∙◌, arith, eqb-true}
 use Rattle.model.specs.declared.Dims.{Dims}
 use Rattle.model.specs.Tests.{all_to}
 use Rattle.model.specs.Numbers.{nat, cell}
@@ -10,7 +10,6 @@ use Rattle.model.specs.Rows.{next_order}
 use Rattle.model.specs.LastOrder.{last_at, last_long, last_ok, last_ops}
 use Rattle.model.specs.Claim.{R}
 use Rattle.model.proofs.TestLaws.{all_same}
-use Rattle.layout.specs.Layout.{all_customers}
 use Rattle.layout.proofs.Bounds.{last-is}
 use Rattle.last_orders.proofs.Passing.{before}
 
@@ -39,10 +38,6 @@ module _ (d : Dims) (w k : ℕ) where
 
 -- ── the slice's length ──
 module _ (d : Dims) (last : List ℤ) where
-  pub long-is : {n : ℕ} → n ≡ all_customers d → eqb (length last) n ≡ last_long d last
-  unfolding last_long all_customers
-  long-is e = ap (eqb (length last)) e
-
   pub long-length : last_long d last ≡ true → length last ≡ 10 * d.warehouses * d.customers
   unfolding last_long
   long-length e = eqb-true _ _ e

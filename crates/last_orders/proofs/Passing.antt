@@ -44,13 +44,13 @@ module _ (xs : List ℤ) (p next half : ℕ) where
   pub found-step : (low high i x y : ℕ) {s t : ℕ} → 1 ≤ next → next < 2 ^ 63
       → cell xs (p + i) ≡ cond (below x) x (2 ^ 63) → cell xs (p + half + i) ≡ cond (below y) y (2 ^ 63)
       → s ≡ (x + (2 ^ 63 - next)) % 2 ^ 64 → t ≡ (y + (2 ^ 63 - next)) % 2 ^ 64
-      → Found low high i → Found (bit_or (bit_or low x) y) (bit_or (bit_or high s) t) (i + 1)
+      → Found low high i → Found (bit_or low (bit_or x y)) (bit_or high (bit_or s t)) (i + 1)
   found-step low high i x y {s} {t} l h ex ey es et e =
       let px : p + (i + 1 - 1) ≡ p + i = omega arith in
       let py : p + (half + (i + 1) - 1) ≡ p + half + i = omega arith in
       let fx : (below x && below s) ≡ before xs p next (i + 1) = number-before _ x s next l h (ap (cell xs) px ∙ ex) es in
       let fy : (below y && below t) ≡ before xs p next (half + (i + 1)) = number-before _ y t next l h (ap (cell xs) py ∙ ey) et in
-      rw (or_below (bit_or low x) y, or_below low x, or_below (bit_or high s) t, or_below high s, all-step both i, ← e, ← fx, ← fy)
+      rw (or_below low (bit_or x y), or_below x y, or_below high (bit_or s t), or_below s t, all-step both i, ← e, ← fx, ← fy)
       (sorted (below low) (below high) (below x) (below s) (below y) (below t))
 
   -- all turns: every number of the n has been looked at

@@ -13,6 +13,7 @@ ghost use Rattle.model.proofs.Fields.{Dimensioned};
 ghost use Rattle.rows.specs.Book.{Booked};
 
 use model::Dims;
+use rows::Book;
 
 // Each of the n numbers from index p on is one of 0, .., next - 1: its bits are below 2 ^ 63, and so is their sum with 2 ^ 63 - next.
 // No turn compares or leaves, and the two halves go side by side, so that a turn is compiled to sums and ors of several numbers at once.
@@ -27,46 +28,40 @@ fn all_before(last: &[i64], p: u64, n: u64, next: u64) -> bool
     let second = p + half;
     let mut low = 0;
     let mut high = 0;
-    let mut i = 0;
-    while i < turns {
+    for i in 0..turns {
         let x = cells::bits(last, p + i);
         let y = cells::bits(last, second + i);
-        low = low | x | y;
-        high = high | std::num::wrapping_add_u64(x, room) | std::num::wrapping_add_u64(y, room);
-        i += 1;
+        low |= x | y;
+        high |= x.wrapping_add(room) | y.wrapping_add(room);
     }
     (low < 9223372036854775808) & (high < 9223372036854775808)
 }
 
 // The first test of refusal 13: the slice is as long as it has to be.
+#[tactic(auto, unfolding(model::specs::LastOrder::last_long, layout::specs::Layout::all_customers))]
 pub fn long_ok(last: &[i64], d: Dims) -> bool
     requires { Dimensioned d }
     ensures { result ≡ last_long d last.now }
 {
-    let long = last.len() as u64;
-    let customers = layout::all_customers(d);
-    long == customers
+    last.len() as u64 == layout::all_customers(d)
 }
 
 // The second: the numbers of the call's district are below its next order number. The district's row has been found in range.
-pub fn numbers_ok(last: &[i64], b: &[i64], d: Dims, w: u64, k: u64) -> bool
-    requires { Booked d b.now × (R d.warehouses w × (R 10 k × ((district_used d b.now w k ≡ true) × (last_long d last.now ≡ true)))) }
-    ensures { result ≡ last_ok d b.now last.now w k }
+pub fn numbers_ok(last: &[i64], book: &Book, w: u64, k: u64) -> bool
+    requires { R book.now.dims.warehouses w × (R 10 k × ((district_used book.now.dims book.now.nums.now w k ≡ true) × (last_long book.now.dims last.now ≡ true))) }
+    ensures { result ≡ last_ok book.now.dims book.now.nums.now last.now w k }
 {
-    let p = layout::of_customer(d, w, k, 1);
-    let next = rows::next_order(b, d, w, k);
-    all_before(last, p, d.customers, next)
+    let p = layout::of_customer(book.dims, w, k, 1);
+    let next = rows::next_order(book, w, k);
+    all_before(last, p, book.dims.customers, next)
 }
 
 // Both tests, as New-Order makes them.
-pub fn fits(last: &[i64], b: &[i64], d: Dims, w: u64, k: u64) -> bool
-    requires { Booked d b.now × (R d.warehouses w × (R 10 k × (district_used d b.now w k ≡ true))) }
-    ensures { result ≡ (last_long d last.now && last_ok d b.now last.now w k) }
+pub fn fits(last: &[i64], book: &Book, w: u64, k: u64) -> bool
+    requires { R book.now.dims.warehouses w × (R 10 k × (district_used book.now.dims book.now.nums.now w k ≡ true)) }
+    ensures { result ≡ (last_long book.now.dims last.now && last_ok book.now.dims book.now.nums.now last.now w k) }
 {
-    if !long_ok(last, d) {
-        return false;
-    }
-    numbers_ok(last, b, d, w, k)
+    long_ok(last, book.dims) && numbers_ok(last, book, w, k)
 }
 
 // A customer's last order, 0 for none; a negative number is above every order.

@@ -1,3 +1,7 @@
+// Where the rows of a book stand, by its sizes.
+// That sizes are in their ranges (`Dimensioned`) is a clause, here and where sizes are taken without a book: with a model each proof would carry the equation
+// between sizes and fields, with a ghost field each clause would write `d.dims`. That a row is one of the book's (`R`) is a clause everywhere: a type for a
+// warehouse, a customer or an item would hold the sizes too, and each clause the equation between both; the theorems say `R 10 k` of a number.
 #![tactic(auto)]
 
 ghost use Rattle.std.specs.Prelude.{◌≡◌, ◌+◌, ◌*◌, ◌≤◌, ◌<◌, ◌^◌, length};
@@ -12,9 +16,11 @@ ghost use Rattle.layout.specs.Layout.{all_customers, all_stocks, all_orders, ite
 ghost use Rattle.layout.specs.Heads.{HeadSays};
 ghost use Rattle.layout.specs.Runs.{row_in, RunOf, SectionRun};
 
-use model::Dims;
+use model::{Dims, Refused};
 
-// The five numbers that fix the size are in their ranges.
+// The five numbers that fix the size are in their ranges. They are tested as they lie: to read them for `dims_in_range` first makes the head of each call
+// slower.
+#[tactic(auto, unfolding(model::specs::Head::dims, model::specs::Head::dims_tests))]
 fn dims_ok(b: &[i64]) -> bool
     requires { 6 ≤ length b.now }
     ensures { result ≡ every (dims_tests (dims b.now)) }
@@ -27,6 +33,7 @@ fn dims_ok(b: &[i64]) -> bool
 }
 
 // Five sizes that stand in no book are in the same ranges.
+#[tactic(auto, unfolding(model::specs::Head::dims_tests))]
 pub fn dims_in_range(d: Dims) -> bool
     ensures { result ≡ every (dims_tests d) }
 {
@@ -38,21 +45,17 @@ pub fn dims_in_range(d: Dims) -> bool
 }
 
 // The five numbers, which have been found in their ranges.
+#[tactic(auto, unfolding(model::specs::Head::dims))]
 fn dims_of(b: &[i64]) -> Dims
     requires { (6 ≤ length b.now) × Dimensioned (dims b.now) }
     ensures { result ≡ dims b.now }
 {
-    let warehouses = cells::held(b, 0);
-    let customers = cells::held(b, 1);
-    let items = cells::held(b, 2);
-    let orders = cells::held(b, 3);
-    let histories = cells::held(b, 4);
     Dims {
-        warehouses,
-        customers,
-        items,
-        orders,
-        histories,
+        warehouses: cells::held(b, 0),
+        customers: cells::held(b, 1),
+        items: cells::held(b, 2),
+        orders: cells::held(b, 3),
+        histories: cells::held(b, 4),
     }
 }
 
@@ -127,6 +130,7 @@ pub fn name_bytes_of(d: Dims) -> u64
 }
 
 // The history count and the two lengths agree with the head.
+#[tactic(auto, unfolding(model::specs::Head::size_tests))]
 fn sizes_ok(b: &[i64], wide: u64, d: Dims) -> bool
     requires { (6 ≤ length b.now) × Dimensioned d }
     ensures { result ≡ every (size_tests d b.now wide) }
@@ -138,29 +142,21 @@ fn sizes_ok(b: &[i64], wide: u64, d: Dims) -> bool
     (count <= d.histories) & (long == numbers) & (wide == bytes)
 }
 
-// What reading the head finds: a book of these dimensions, or none.
-#[derive(Clone, Copy)]
-pub enum Head {
-    Book(Dims),
-    Damaged,
-}
-
-// The head read: the dimensions where it is in its ranges and the two lengths agree with it.
-pub fn head_of(b: &[i64], names: &[u8]) -> Head
+// The head read: the sizes, where they are in their ranges and the two lengths agree with them.
+pub fn head_of(b: &[i64], names: &[u8]) -> Result<Dims, Refused>
     ensures { HeadSays b.now (length names.now) result }
 {
     if b.len() < 6 {
-        return Head::Damaged;
+        return Err(Refused::Head);
     }
     if !dims_ok(b) {
-        return Head::Damaged;
+        return Err(Refused::Head);
     }
     let d = dims_of(b);
-    let wide = names.len() as u64;
-    if !sizes_ok(b, wide, d) {
-        return Head::Damaged;
+    if !sizes_ok(b, names.len() as u64, d) {
+        return Err(Refused::Head);
     }
-    Head::Book(d)
+    Ok(d)
 }
 
 // Where the row of a warehouse starts.

@@ -1,5 +1,5 @@
 -- Laws of the crate's code.
 pub mod Walk
 pub mod Forms
-pub mod Whos
-pub mod WhoForms
+pub mod Orders
+pub mod Names

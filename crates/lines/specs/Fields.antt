@@ -1,69 +1,95 @@
--- A line's fields as code walks them: numbers in a row, who.
+-- A line's fields as code walks them: numbers in a row, who, the lines of an order.
 -- Assumes nothing.
-use Rattle.std.specs.Prelude.{◌≡◌, Bool, true, false, cond, List, [], ◌∷◌, ◌++◌, map, ℕ, ◌+◌, ◌-◌, ◌*◌, ◌≤◌, length, get_or}
-use Rattle.model.specs.declared.LastName.{LastName}
+use Rattle.std.specs.Prelude.{◌≡◌, Bool, true, false, ◌&&◌, Option, Some, None, List, [], ◌∷◌, ◌++◌, map, ℕ, zero, suc, ◌+◌, ◌-◌, ◌*◌, ◌/◌, ◌≤◌, eqb, leb, length, take, drop, replicate}
+use Rattle.std.specs.Option.{IfSome}
+use Rattle.model.specs.declared.Form.{Form}
+use Rattle.model.specs.declared.Line.{Line}
 use Rattle.model.specs.declared.Lines.{Lines}
 use Rattle.model.specs.declared.Selection.{Selection}
-use Rattle.model.specs.Tests.{all_of}
-use Rattle.model.specs.Lists.{up_to}
+use Rattle.model.specs.Tests.{every, all_of}
 use Rattle.model.specs.Text.{is_number, value_of}
-use Rattle.model.specs.RequestLine.{is_name, is_who, who_read, pad_to, selection, name_of_who, stored_name}
+use Rattle.model.specs.Names.{who_of}
+use Rattle.model.specs.Request.{new_order, payment, delivery, order_status, stock_level, request_of, no_line, lines_in}
+use Rattle.model.specs.RequestLine.{is_who, who_read, field, lines_read, Reading, read, no_form}
 use Rattle.text.specs.Fields.{fields_from}
-use Rattle.lines.specs.declared.WhoStep.{WhoStep}
 
 abbrev pub values_of : List (List ℕ) → List ℕ
 values_of fs = map value_of fs
 
--- fields that are numbers, from a position on, and where the next field starts
-pub record Run (s : List ℕ) (at count next : ℕ) (values : List ℕ) : Type 0 where
-  pub fields : List (List ℕ)
-  pub whole : fields_from s at ≡ fields ++ fields_from s next
-  pub numbers : all_of is_number fields ≡ true
-  pub long : length fields ≡ count
-  pub same : values ≡ pad_to 49 (values_of fields)
+-- the first n fields are numbers
+abbrev pub has_numbers : ℕ → List (List ℕ) → Bool
+has_numbers zero fs = true
+has_numbers (suc n) [] = false
+has_numbers (suc n) (f ∷ fs) = is_number f && has_numbers n fs
+
+-- there are n fields, all of them numbers
+abbrev pub are_numbers : ℕ → List (List ℕ) → Bool
+are_numbers n fs = eqb (length fs) n && all_of is_number fs
+
+-- numbers read from a position on, and where the next field starts
+pub record Run (n : ℕ) (s : List ℕ) (at next : ℕ) (values : List ℕ) : Type 0 where
+  pub numbers : has_numbers n (fields_from s at) ≡ true
+  pub same : values ≡ values_of (take n (fields_from s at))
+  pub rest : drop n (fields_from s at) ≡ fields_from s next
   pub within : next ≤ length s + 1
 
--- n numbers among the values, every third from one on, and zeros up to 15
-abbrev pub third : List ℕ → ℕ → ℕ → ℕ
-third v from j = get_or v (from + 3 * (j - 1)) 0
-
-unfoldable pub column_of : List ℕ → ℕ → ℕ → List ℕ
-column_of v from n = pad_to 15 (up_to n (third v from))
-
--- the lines of an order, which start at the fifth value
-abbrev pub columns : List ℕ → ℕ → Lines
-columns v n = record { count = n; items = column_of v 4 n; supplies = column_of v 5 n; quantities = column_of v 6 n }
+abbrev pub NumbersSay : ℕ → List ℕ → ℕ → Option (List ℕ × ℕ) → Type 0
+NumbersSay n s at (Some (values, next)) = Run n s at next values
+NumbersSay n s at None = has_numbers n (fields_from s at) ≡ false
 
 -- who, in a field
-abbrev pub no_who : WhoStep
-no_who = record { ok = false; next = 0; selection = Selection.LastName; name = stored_name [] }
-
-unfoldable pub who_by_number : List ℕ → ℕ → WhoStep
-who_by_number f next = cond (is_number f) (record { ok = true; next = next; selection = Selection.Number (value_of f); name = stored_name [] }) no_who
-
-unfoldable pub who_by_name : List ℕ → ℕ → WhoStep
-who_by_name f next = cond (is_name f) (record { ok = true; next = next; selection = Selection.LastName; name = stored_name f }) no_who
-
-unfoldable pub who_step : List ℕ → ℕ → WhoStep
-who_step f next = cond (is_who f) (record { ok = true; next = next; selection = selection (who_read f); name = stored_name (name_of_who (who_read f)) }) no_who
+abbrev pub WhoReads : List ℕ → Option Selection → Type 0
+WhoReads f (Some who) = (is_who f ≡ true) × (who_of who ≡ who_read f)
+WhoReads f None = is_who f ≡ false
 
 -- the first of some fields is a who
 abbrev pub has_who_field : List (List ℕ) → Bool
 has_who_field [] = false
 has_who_field (f ∷ fs) = is_who f
 
--- a field that is a who, and where the next field starts
-pub record WhoStepped (s : List ℕ) (at next : ℕ) (chosen : Selection) (name : LastName) : Type 0 where
-  pub first : List ℕ
-  pub parts : fields_from s at ≡ first ∷ fields_from s next
-  pub who : is_who first ≡ true
-  pub choice : chosen ≡ selection (who_read first)
-  pub same : name ≡ stored_name (name_of_who (who_read first))
+-- a who read at a position, and where the next field starts
+pub record WhoStepped (s : List ℕ) (at next : ℕ) (who : Selection) : Type 0 where
+  pub there : has_who_field (fields_from s at) ≡ true
+  pub choice : who_of who ≡ who_read (field (fields_from s at) 0)
+  pub rest : drop 1 (fields_from s at) ≡ fields_from s next
   pub within : next ≤ length s + 1
 
-abbrev pub WhoFound : Bool → List ℕ → ℕ → WhoStep → Type 0
-WhoFound true s at r = WhoStepped s at r.next r.selection r.name
-WhoFound false s at r = has_who_field (fields_from s at) ≡ false
+abbrev pub WhoSays : List ℕ → ℕ → Option (Selection × ℕ) → Type 0
+WhoSays s at (Some (who, next)) = WhoStepped s at next who
+WhoSays s at None = has_who_field (fields_from s at) ≡ false
 
-abbrev pub WhoSays : List ℕ → ℕ → WhoStep → Type 0
-WhoSays s at r = WhoFound r.ok s at r
+-- the fields are the numbers of 1 to 15 lines
+abbrev pub are_lines : List (List ℕ) → Bool
+are_lines fs =
+    let n = length fs / 3 in
+    every (all_of is_number fs ∷ eqb (length fs) (3 * n) ∷ leb 1 n ∷ leb n 15 ∷ [])
+
+-- lines in an array of fifteen, and no line past the last
+pub record Holds (l : Lines) (lines : List Line) : Type 0 where
+  pub count : l.count ≡ length lines
+  pub array : l.lines ≡ lines ++ replicate (15 - length lines) no_line
+
+abbrev pub LinesSay : List (List ℕ) → Option Lines → Type 0
+LinesSay fs (Some l) = (are_lines fs ≡ true) × Holds l (lines_read fs)
+LinesSay fs None = are_lines fs ≡ false
+
+-- the lines of what was read
+abbrev pub lines_beside : Reading → List Line
+lines_beside (read (new_order q lines)) = lines
+lines_beside (read (payment q who)) = []
+lines_beside (read (delivery q)) = []
+lines_beside (read (order_status q who)) = []
+lines_beside (read (stock_level q)) = []
+lines_beside no_form = []
+
+-- what was read: a form without lines, and a form with the lines beside it
+abbrev pub form_read : Option Form → Reading
+form_read (Some form) = read (request_of form [])
+form_read None = no_form
+
+abbrev pub reading : Option (Form × Lines) → Reading
+reading (Some (form, lines)) = read (request_of form (lines_in lines))
+reading None = no_form
+
+abbrev pub Beside : Option (Form × Lines) → Type 0
+Beside o = IfSome o (λ p. Holds p.1 (lines_beside (read (request_of p.0 (lines_in p.1)))))

@@ -1,13 +1,11 @@
 -- From the byte where a district's names start to the model's definitions.
 -- Assumes nothing.
-use mathlib.Core.Path.{◌≡◌, sym, ap, ◌∙◌, fun_ext}
+use mathlib.Core.Path.{◌≡◌, ap, ◌∙◌, fun_ext}
 use mathlib.Core.Bool.{Bool, true, false}
 use mathlib.Core.List.{List}
 use Prim.Native.Nat.{ℕ, ◌+◌, ◌-◌, ◌*◌, ◌<◌, ◌≤◌, ◌^◌}
 use native.Mathlib.Omega.{arith}
 use lib.Dec.{ltb}
-use lib.ListN.{length, get_or, take}
-use lib.Seq.{length-take-le, get_or-take}
 use Rattle.model.specs.declared.Dims.{Dims}
 use Rattle.model.specs.Tests.{all_to}
 use Rattle.model.specs.Names.{name_place, name_at, name_ok, last_name, first_name, compare_names, is_equal, smaller_or, named, before, sorted, passing, namesakes}
@@ -50,27 +48,14 @@ module _ (names : List ℕ) (base : ℕ) where
   unfolding before_from
   from-total a b e n = order-total (λ c. name_at names (base + 32 * (c - 1) + 16)) a b e n
 
-  pub listed : (count : ℕ) (test : ℕ → Bool) (list : List ℕ) (n i : ℕ) → take n list ≡ sorted (before_from names base) (passing test i) → base + 32 * count ≤ length names → count < 2 ^ 16 → n ≤ length list
-      → i < count → Listed names base count list n (i + 1)
-  listed count test list n i e r f m h =
-      record {
-        reach = r;
+  pub listed : (count : ℕ) (test : ℕ → Bool) (i c : ℕ) {list : List ℕ} → list ≡ sorted (before_from names base) (passing test i) → count < 2 ^ 16 → i < c → c ≤ count
+      → Listed names base count list c
+  listed count test i c e f h k =
+      rw e
+      (record {
         few = f;
-        room = m;
         low = omega arith;
-        high = omega arith;
-        numbers = numbers;
-        ordered = ordered;
-      }
-    where
-      s : length (sorted (before_from names base) (passing test i)) ≡ n
-      s = ap length (sym e) ∙ length-take-le n list m
-
-      at : (j : ℕ) → j < n → get_or (sorted (before_from names base) (passing test i)) j 0 ≡ get_or list j 0
-      at j q = ap (λ (l : List ℕ). get_or l j 0) (sym e) ∙ get_or-take n list j 0 q
-
-      numbers : (j : ℕ) → j < n → R count (get_or list j 0)
-      numbers j q = rw (at j q) at (sorted-at (before_from names base) (R count) test i (λ c x y. record { lo = x.lo; hi = omega (arith, x.hi) }) j (rw s q))
-
-      ordered : (a b : ℕ) → a < b → b < n → before_from names base (get_or list a 0) (get_or list b 0) ≡ true
-      ordered a b p q = rw (at a (omega arith), at b q) at (sorted-ordered (before_from names base) (from_trans names base) from-total test i a b p (rw s q))
+        high = k;
+        numbers = λ j q. sorted-at (before_from names base) (R count) test i (λ c x y. record { lo = x.lo; hi = omega (arith, x.hi) }) j q;
+        ordered = λ a b p q. sorted-ordered (before_from names base) (from_trans names base) from-total test i a b p q;
+      })

@@ -1,17 +1,20 @@
 -- Laws of the insertion: its place, found by halving, and how the entries from it on move up.
 -- Assumes nothing.
-use mathlib.Core.Path.{◌≡◌, refl, sym, ap, ◌∙◌}
+use mathlib.Core.Path.{◌≡◌, refl, ap, ◌∙◌}
 use mathlib.Core.Bool.{Bool, true, false, cond}
 use mathlib.Core.List.{List, [], ◌∷◌, ◌++◌}
 use Prim.Native.Nat.{ℕ, zero, suc, ◌+◌, ◌-◌, ◌*◌, ◌/◌, ◌<◌, ◌≤◌}
-use native.Mathlib.Nat.{add-zero}
 use native.Mathlib.Numerals.{add-one}
 use native.Mathlib.Omega.{arith}
-use lib.ListN.{length, get_or, take, drop, set, drop_of_length-le}
-use lib.Seq.{drop-cons, append_snoc, take-suc-set, drop-set-lt, get_or-drop, get_or-take, length-take-le, drop-drop, take-take}
+use lib.ListN.{length, get_or, take, drop, set, length-append, length-drop}
+use lib.Seq.{get_or-take, length-take-le, take-suc, take-take}
+use Rattle.std.specs.List.{copy_within}
+use Rattle.std.proofs.lemmas.List.{take_at, set_at}
+use Rattle.std.proofs.lemmas.Slice.{between_is}
+use Rattle.std.proofs.Common.{append_assoc}
 use Rattle.model.specs.Names.{insert, taken, place_of, name_at}
-use Rattle.model.specs.declared.Found.TheVariants.{Customer, Nobody}
-use Rattle.lookup.specs.Listed.{before_from, insert_place}
+use Rattle.std.specs.Prelude.{Some, None}
+use Rattle.lookup.specs.Listed.{before_from, insert_place, Listed}
 use Rattle.model.proofs.Order.{order_trans}
 
 module _ (comes : ℕ → ℕ → Bool) where
@@ -26,11 +29,11 @@ module _ (comes : ℕ → ℕ → Bool) where
       split h false = ap (λ (l : List ℕ). y ∷ l) h
 
   -- put in at its place, it is inserted
-  pub inserted : (x : ℕ) (l : List ℕ) (n p : ℕ) → p ≤ n → p ≡ insert_place comes x (take n l) → take p l ++ (x ∷ drop p (take n l)) ≡ insert comes x (take n l)
+  inserted : (x : ℕ) (l : List ℕ) (n p : ℕ) → p ≤ n → p ≡ insert_place comes x (take n l) → take p l ++ (x ∷ drop p (take n l)) ≡ insert comes x (take n l)
   inserted x l n p h e = rw (insert-at x (take n l), ← e, take-take p n l h)
 
   -- the place is at most where the test holds
-  place_le : (x : ℕ) (ys : List ℕ) (i : ℕ) → i < length ys → comes x (get_or ys i 0) ≡ true → insert_place comes x ys ≤ i
+  pub place_le : (x : ℕ) (ys : List ℕ) (i : ℕ) → i < length ys → comes x (get_or ys i 0) ≡ true → insert_place comes x ys ≤ i
   place_le x [] i h e = absurd (omega arith)
   place_le x (y ∷ ys) zero h e = rw e (omega arith)
   place_le x (y ∷ ys) (suc i) h e = split (comes x y) (place_le x ys i (omega arith) e)
@@ -39,7 +42,7 @@ module _ (comes : ℕ → ℕ → Bool) where
       split true k = omega arith
       split false k = omega arith
 
-  place_max : (x : ℕ) (ys : List ℕ) → insert_place comes x ys ≤ length ys
+  pub place_max : (x : ℕ) (ys : List ℕ) → insert_place comes x ys ≤ length ys
   place_max x [] = omega arith
   place_max x (y ∷ ys) = split (comes x y) (place_max x ys)
     where
@@ -60,65 +63,45 @@ module _ (comes : ℕ → ℕ → Bool) where
           absurd (let z : ◌≡◌ {A = ℕ} 0 1 = cc in omega arith)
       split false q k = omega arith
 
--- ── a half of the places among the first n of a list, by the test at i ──
+-- ── a half of the places of a list, by the test at i ──
 module _ (names : List ℕ) (base : ℕ) where
   pub from_trans : (a b c : ℕ) → before_from names base a b ≡ true → before_from names base b c ≡ true → before_from names base a c ≡ true
   unfolding before_from
   from_trans a b c e f = order_trans (λ c. name_at names (base + 32 * (c - 1) + 16)) a b c e f
 
-  pub half_low : (x : ℕ) (l : List ℕ) (n i : ℕ) → i < n → n ≤ length l → before_from names base x (get_or l i 0) ≡ true → insert_place (before_from names base) x (take n l) ≤ i
-  half_low x l n i h k e =
-      let m : i < length (take n l) = rw (length-take-le n l k) h in
-      place_le (before_from names base) x (take n l) i m (rw (get_or-take n l i 0 h) e)
+  pub half_high : {count x : ℕ} {l : List ℕ} → Listed names base count l x → (i : ℕ) → i < length l → before_from names base x (get_or l i 0) ≡ false → i < insert_place (before_from names base) x l
+  half_high {x = x} {l = l} r i h e = place_gt (before_from names base) from_trans x l i h r.ordered e
 
-  pub half_high : (x : ℕ) (l : List ℕ) (n i : ℕ) → i < n → n ≤ length l → ((i j : ℕ) → i < j → j < n → before_from names base (get_or l i 0) (get_or l j 0) ≡ true)
-      → before_from names base x (get_or l i 0) ≡ false → i < insert_place (before_from names base) x (take n l)
-  half_high x l n i h k o e =
-      let s : length (take n l) ≡ n = length-take-le n l k in
-      let m : i < length (take n l) = rw s h in
-      place_gt (before_from names base) from_trans x (take n l) i m (λ a b p q. at a b p (rw s at q)) (rw (get_or-take n l i 0 h) e)
-    where
-      at : (a b : ℕ) → a < b → b < n → before_from names base (get_or (take n l) a 0) (get_or (take n l) b 0) ≡ true
-      at a b p q = rw (get_or-take n l a 0 (omega arith), get_or-take n l b 0 q) (o a b p q)
+-- ── the first n of a list, those from p on moved up by one and x put at p ──
+moved_up : (l : List ℕ) (n p x : ℕ) → p ≤ n → n < length l → take (n + 1) (set (copy_within l p n (p + 1)) p x) ≡ take p l ++ (x ∷ drop p (take n l))
+moved_up l n p x h k =
+    let front : List ℕ = take p l in
+    let mid : List ℕ = take (n - p) (drop p l) in
+    let rest : List ℕ = drop (p + 1 + (n - p)) l in
+    let lf : length front ≡ p = length-take-le p l (omega arith) in
+    let lm : length mid ≡ n - p = length-take-le (n - p) (drop p l) (omega (arith, length-drop p l)) in
+    let here : take (p + 1) l ≡ front ++ (get_or l p 0 ∷ []) = rw add-one (take-suc l p 0 (omega arith)) in
+    let moved : copy_within l p n (p + 1) ≡ front ++ (get_or l p 0 ∷ (mid ++ rest)) = rw here (simp append_assoc) in
+    let whole : take (n + 1) ((front ++ (x ∷ mid)) ++ rest) ≡ front ++ (x ∷ mid) = take_at (front ++ (x ∷ mid)) rest (n + 1) (length-append front (x ∷ mid) ∙ omega arith) in
+    rw (moved, set_at front (get_or l p 0) (mid ++ rest) x p lf, ← append_assoc front (x ∷ mid) rest, whole, ← between_is l p n)
 
-  pub place-within : (x : ℕ) (l : List ℕ) (n : ℕ) → n ≤ length l → insert_place (before_from names base) x (take n l) ≤ n
-  place-within x l n k = rw (length-take-le n l k) at (place_max (before_from names base) x (take n l))
-
--- ── the number x carried over the entry at i: what stands before it, x, and what is still to come ──
-pub carry_step : (l₀ l : List ℕ) (n i x : ℕ) → i < n → n < length l → length l ≡ length l₀ → drop i l ≡ drop i l₀
-    → take (i + 1) (set l i x) ++ (get_or l i 0 ∷ drop (i + 1) (take n l₀)) ≡ take i l ++ (x ∷ drop i (take n l₀))
-carry_step l₀ l n i x h k e d =
-    let g : get_or l i 0 ≡ get_or (take n l₀) i 0 =
-    ap (λ (j : ℕ). get_or l j 0) (sym (add-zero i)) ∙ sym (get_or-drop i l 0 0) ∙ ap (λ (s : List ℕ). get_or s 0 0) d ∙ get_or-drop i l₀ 0 0 ∙ ap (λ (j : ℕ). get_or l₀ j 0) (add-zero i)
-    ∙ sym (get_or-take n l₀ i 0 h)
-    in
-    let m : i < length (take n l₀) = rw (length-take-le n l₀ (omega arith)) h in
-    rw (add-one i, take-suc-set l i x (omega arith), append_snoc, g, ← drop-cons (take n l₀) i 0 m)
-
-pub carry_end : (l₀ l t : List ℕ) (n i x : ℕ) → i ≤ n → n ≤ i → n < length l → length l ≡ length l₀ → take i l ++ (x ∷ drop i (take n l₀)) ≡ t
-    → take (n + 1) (set l n x) ≡ t
-carry_end l₀ l t n i x h k b e q =
-    let s : i ≡ n = omega arith in
-    let m : length (take n l₀) ≡ n = length-take-le n l₀ (omega arith) in
-    let r : take n l ++ (x ∷ drop n (take n l₀)) ≡ t = rw s at q in
-    let d : drop n (take n l₀) ≡ [] = let z : length (take n l₀) ≤ n = omega arith in drop_of_length-le (take n l₀) z in
-    rw (add-one n, take-suc-set l n x b) (rw d at r)
-
--- what is still to come stays as it was
-pub carry_rest : (l₀ l : List ℕ) (i x : ℕ) → drop i l ≡ drop i l₀ → drop (i + 1) (set l i x) ≡ drop (i + 1) l₀
-carry_rest l₀ l i x d = drop-set-lt (i + 1) l i x (omega arith) ∙ sym (drop-drop 1 i l) ∙ ap (drop 1) d ∙ drop-drop 1 i l₀
+pub put_in : (comes : ℕ → ℕ → Bool) (l : List ℕ) (n p x : ℕ) → n < length l → p ≤ length (take n l) → p ≡ insert_place comes x (take n l)
+    → take (n + 1) (set (copy_within l p n (p + 1)) p x) ≡ insert comes x (take n l)
+put_in comes l n p x k h e =
+    let b : p ≤ n = omega (arith, length-take-le n l (omega arith)) in
+    moved_up l n p x b k ∙ inserted comes x l n p b e
 
 -- ── the entry at the place, of a list that stands at the front of another ──
-taken_of : (xs : List ℕ) → 0 < length xs → taken xs ≡ Customer (get_or xs (place_of (length xs) - 1) 0)
+taken_of : (xs : List ℕ) → 0 < length xs → taken xs ≡ Some (get_or xs (place_of (length xs) - 1) 0)
 taken_of [] h = absurd (omega arith)
 taken_of (x ∷ xs) h = refl
 
-pub taken_none : (l xs : List ℕ) (n : ℕ) → n ≡ 0 → take n l ≡ xs → Nobody ≡ taken xs
+pub taken_none : (l xs : List ℕ) (n : ℕ) → n ≡ 0 → take n l ≡ xs → None ≡ taken xs
 taken_none l xs n h e =
     let f : take 0 l ≡ xs = rw h at e in
     rw (← f)
 
-pub taken_at : (l xs : List ℕ) (n : ℕ) → take n l ≡ xs → 0 < n → n ≤ length l → Customer (get_or l ((n + 1) / 2 - 1) 0) ≡ taken xs
+pub taken_at : (l xs : List ℕ) (n : ℕ) → take n l ≡ xs → 0 < n → n ≤ length l → Some (get_or l ((n + 1) / 2 - 1) 0) ≡ taken xs
 taken_at l xs n e h k =
     let m : length (take n l) ≡ n = length-take-le n l k in
     let g : get_or (take n l) ((n + 1) / 2 - 1) 0 ≡ get_or l ((n + 1) / 2 - 1) 0 = get_or-take n l ((n + 1) / 2 - 1) 0 (omega arith) in

@@ -5,8 +5,11 @@ use mathlib.Core.Logic.{◌≢◌}
 use mathlib.Core.List.{List}
 use lib.IntN.{ℤ}
 use borrow.Author.Tests.{eq-eqb, ne_eqb}
-use Rattle.model.specs.declared.Refusal.{Refusal}
-use Rattle.model.specs.Answer.{committed, refused, answer_by, left_by}
+use Rattle.model.specs.Tests.{Refusal}
+use Rattle.model.specs.Tests.{bare}
+use Rattle.model.specs.declared.Refused.{Refused}
+use Rattle.model.specs.Answer.{committed, refused, answer_by, left_by, numbered}
+use native.Mathlib.Omega.{arith}
 
 module _ {f r : Refusal} (e : r ≡ f) where
   pub none-fits : r.number ≡ 0 → f.number ≡ 0
@@ -27,3 +30,30 @@ module _ {f r : Refusal} (e : r ≡ f) where
 
     pub kept-is : r.number ≢ 0 → y ≡ left_by f x y
     kept-is n = rw (ne_eqb f.number 0 (some_fits n))
+
+-- a refusal has a number
+pub refused_some : (r : Refused) → (numbered r).number ≢ 0
+refused_some Refused.NoForm = λ z. omega arith
+refused_some Refused.Head = λ z. omega arith
+refused_some Refused.NotNew = λ z. omega arith
+refused_some Refused.Warehouse = λ z. omega arith
+refused_some Refused.District = λ z. omega arith
+refused_some Refused.Customer = λ z. omega arith
+refused_some Refused.Date = λ z. omega arith
+refused_some (Refused.Range line) = λ z. omega arith
+refused_some Refused.Row = λ z. omega arith
+refused_some Refused.Nobody = λ z. omega arith
+refused_some Refused.Full = λ z. omega arith
+refused_some (Refused.Item line) = λ z. omega arith
+refused_some Refused.LastOrders = λ z. omega arith
+refused_some Refused.Notes = λ z. omega arith
+refused_some Refused.QueueFull = λ z. omega arith
+refused_some Refused.NotRun = λ z. omega arith
+refused_some Refused.TopUp = λ z. omega arith
+
+-- the first refusal that fits, as a step of a call has found it
+pub some-fits : (r : Refused) {f : Refusal} → numbered r ≡ f → f.number ≢ 0
+some-fits r e z = refused_some r (ap (λ (x : Refusal). x.number) e ∙ z)
+
+pub nothing-fits : {f : Refusal} → bare 0 ≡ f → f.number ≡ 0
+nothing-fits e = ap (λ (x : Refusal). x.number) (sym e)

@@ -14,7 +14,6 @@ pub mod MarkLaws
 pub mod DecimalLaws
 pub mod TextLaws
 pub mod LineLaws
-pub mod Zipped
 pub mod PassLaws
 pub mod RowFacts
 pub mod Order

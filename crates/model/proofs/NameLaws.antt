@@ -10,8 +10,7 @@ use lib.Dec.{leb}
 use lib.ListN.{length, get_or}
 use borrow.Author.Tests.{leb-true}
 use Rattle.model.specs.declared.Dims.{Dims}
-use Rattle.model.specs.declared.Found.{Found}
-use Rattle.model.specs.declared.Found.TheVariants.{Customer, Nobody}
+use Rattle.std.specs.Prelude.{Option, Some, None}
 use Rattle.model.specs.Tests.{every}
 use Rattle.model.specs.Layout.{name_bytes}
 use Rattle.model.specs.Names.{name_place, padded, namesakes, taken, found, Who, by_number, by_name, customer_of, found_number, is_found, who_tests}
@@ -47,25 +46,25 @@ names_max d w k m r s =
     mul-le-mul h m.customers_high
 
 -- ── whoever is found ──
-clash : {X : Type 0} (c : ℕ) → Nobody ≡ Customer c → X
+clash : {X : Type 0} (c : ℕ) → None ≡ Some c → X
 clash c e = absurd (let z : ◌≡◌ {A = ℕ} 0 1 = cc in omega arith)
 
-taken_in : (n : ℕ) (xs : List ℕ) (c : ℕ) → ((i : ℕ) → i < length xs → R n (get_or xs i 0)) → taken xs ≡ Customer c → R n c
+taken_in : (n : ℕ) (xs : List ℕ) (c : ℕ) → ((i : ℕ) → i < length xs → R n (get_or xs i 0)) → taken xs ≡ Some c → R n c
 taken_in n [] c h e = clash c e
 taken_in n (x ∷ xs) c h e =
     let q : get_or (x ∷ xs) ((length (x ∷ xs) + 1) / 2 - 1) 0 ≡ c = cc in
     rw q at (h ((length (x ∷ xs) + 1) / 2 - 1) (omega arith))
 
-pub found_in : (d : Dims) (names : List ℕ) (w k : ℕ) (name : List ℕ) (c : ℕ) → found d names w k name ≡ Customer c → R d.customers c
+pub found_in : (d : Dims) (names : List ℕ) (w k : ℕ) (name : List ℕ) (c : ℕ) → found d names w k name ≡ Some c → R d.customers c
 unfolding found
 found_in d names w k name c e = split (leb 1 (length name) && leb (length name) 16) e
   where
-    split : (t : Bool) → cond t (taken (namesakes d names w k (padded name))) Nobody ≡ Customer c → R d.customers c
+    split : (t : Bool) → cond t (taken (namesakes d names w k (padded name))) None ≡ Some c → R d.customers c
     split true e = taken_in d.customers (namesakes d names w k (padded name)) c (namesake_in d names w k (padded name)) e
     split false e = clash c e
 
 -- whoever a request names, where 6 does not refuse it
-pub customer_in_lem : (d : Dims) (names : List ℕ) (w k : ℕ) (who : Who) (c : ℕ) → every (who_tests d who) ≡ true → customer_of d names w k who ≡ Customer c → R d.customers c
+pub customer_in_lem : (d : Dims) (names : List ℕ) (w k : ℕ) (who : Who) (c : ℕ) → every (who_tests d who) ≡ true → customer_of d names w k who ≡ Some c → R d.customers c
 unfolding customer_of
 customer_in_lem d names w k (by_number n) c t e =
     let h = every-each (who_tests d (by_number n)) t in
@@ -77,6 +76,6 @@ pub found_number_lem : (d : Dims) (names : List ℕ) (w k : ℕ) (who : Who) →
     → R d.customers (found_number (customer_of d names w k who))
 found_number_lem d names w k who t e = split (customer_of d names w k who) refl e
   where
-    split : (f : Found) → customer_of d names w k who ≡ f → is_found f ≡ true → R d.customers (found_number f)
-    split (Customer c) p e = customer_in_lem d names w k who c t p
-    split Nobody p e = absurd (let z : ◌≡◌ {A = ℕ} 0 1 = cc in omega arith)
+    split : (f : Option ℕ) → customer_of d names w k who ≡ f → is_found f ≡ true → R d.customers (found_number f)
+    split (Some c) p e = customer_in_lem d names w k who c t p
+    split None p e = absurd (let z : ◌≡◌ {A = ℕ} 0 1 = cc in omega arith)

@@ -10,14 +10,14 @@ use native.Mathlib.Omega.{arith}
 use borrow.Author.Tests.{ltb-true, ltb-false, lt-ltb, le-ltb}
 use lib.Dec.{ltb}
 use Rattle.model.specs.declared.Dims.{Dims}
-use Rattle.model.specs.declared.Comparison.{Comparison}
-use Rattle.model.specs.declared.Comparison.TheVariants.{Smaller, Equal, Larger}
+use Rattle.std.specs.declared.cmp.Ordering.{Ordering}
+use Rattle.std.specs.declared.cmp.Ordering.TheVariants.{Less, Equal, Greater}
 use Rattle.model.specs.Names.{compare_names, first_name, smaller_or, before}
 
-abbrev pub flip : Comparison → Comparison
-flip Smaller = Larger
+abbrev pub flip : Ordering → Ordering
+flip Less = Greater
 flip Equal = Equal
-flip Larger = Smaller
+flip Greater = Less
 
 -- two names the other way round
 pub flipped : (xs ys : List ℕ) → compare_names ys xs ≡ flip (compare_names xs ys)
@@ -28,25 +28,25 @@ flipped (x ∷ xs) [] = refl
 flipped (x ∷ xs) (y ∷ ys) = split (flipped xs ys) (ltb x y) (ltb y x) refl refl
   where
     split : compare_names ys xs ≡ flip (compare_names xs ys) → (s t : Bool) → ltb x y ≡ s → ltb y x ≡ t
-        → cond t Smaller (cond s Larger (compare_names ys xs)) ≡ flip (cond s Smaller (cond t Larger (compare_names xs ys)))
+        → cond t Less (cond s Greater (compare_names ys xs)) ≡ flip (cond s Less (cond t Greater (compare_names xs ys)))
     split h true true e f = absurd (omega (arith, ltb-true x y e, ltb-true y x f))
     split h true false e f = refl
     split h false true e f = refl
     split h false false e f = h
 
 -- what the first bytes say
-step_equal : (x y : ℕ) (r : Comparison) → cond (ltb x y) Smaller (cond (ltb y x) Larger r) ≡ Equal → (x ≡ y) × (r ≡ Equal)
+step_equal : (x y : ℕ) (r : Ordering) → cond (ltb x y) Less (cond (ltb y x) Greater r) ≡ Equal → (x ≡ y) × (r ≡ Equal)
 step_equal x y r e = split (ltb x y) (ltb y x) refl refl e
   where
-    split : (s t : Bool) → ltb x y ≡ s → ltb y x ≡ t → cond s Smaller (cond t Larger r) ≡ Equal → (x ≡ y) × (r ≡ Equal)
+    split : (s t : Bool) → ltb x y ≡ s → ltb y x ≡ t → cond s Less (cond t Greater r) ≡ Equal → (x ≡ y) × (r ≡ Equal)
     split true t p q e = absurd (let z : ◌≡◌ {A = ℕ} 0 1 = cc in omega arith)
     split false true p q e = absurd (let z : ◌≡◌ {A = ℕ} 0 1 = cc in omega arith)
     split false false p q e = (le_antisymm (ltb-false y x q) (ltb-false x y p), e)
 
-step_smaller : (x y : ℕ) (r : Comparison) → cond (ltb x y) Smaller (cond (ltb y x) Larger r) ≡ Smaller → (x < y) ⊎ ((x ≡ y) × (r ≡ Smaller))
+step_smaller : (x y : ℕ) (r : Ordering) → cond (ltb x y) Less (cond (ltb y x) Greater r) ≡ Less → (x < y) ⊎ ((x ≡ y) × (r ≡ Less))
 step_smaller x y r e = split (ltb x y) (ltb y x) refl refl e
   where
-    split : (s t : Bool) → ltb x y ≡ s → ltb y x ≡ t → cond s Smaller (cond t Larger r) ≡ Smaller → (x < y) ⊎ ((x ≡ y) × (r ≡ Smaller))
+    split : (s t : Bool) → ltb x y ≡ s → ltb y x ≡ t → cond s Less (cond t Greater r) ≡ Less → (x < y) ⊎ ((x ≡ y) × (r ≡ Less))
     split true t p q e = inl (ltb-true x y p)
     split false true p q e = absurd (let z : ◌≡◌ {A = ℕ} 0 1 = cc in omega arith)
     split false false p q e = inr (le_antisymm (ltb-false y x q) (ltb-false x y p), e)
@@ -67,7 +67,7 @@ unfolding compare_names
 same_equal [] = refl
 same_equal (x ∷ xs) = rw (le-ltb x x (omega arith)) (same_equal xs)
 
-pub smaller_trans : (xs ys zs : List ℕ) → compare_names xs ys ≡ Smaller → compare_names ys zs ≡ Smaller → compare_names xs zs ≡ Smaller
+pub smaller_trans : (xs ys zs : List ℕ) → compare_names xs ys ≡ Less → compare_names ys zs ≡ Less → compare_names xs zs ≡ Less
 unfolding compare_names
 smaller_trans [] [] zs e f = absurd (let z : ◌≡◌ {A = ℕ} 0 1 = cc in omega arith)
 smaller_trans [] (y ∷ ys) [] e f = absurd (let z : ◌≡◌ {A = ℕ} 0 1 = cc in omega arith)
@@ -77,9 +77,9 @@ smaller_trans (x ∷ xs) (y ∷ ys) [] e f = absurd (let z : ◌≡◌ {A = ℕ}
 smaller_trans (x ∷ xs) (y ∷ ys) (z ∷ zs) e f =
     split (λ p q. smaller_trans xs ys zs p q) (step_smaller x y (compare_names xs ys) e) (step_smaller y z (compare_names ys zs) f)
   where
-    split : (compare_names xs ys ≡ Smaller → compare_names ys zs ≡ Smaller → compare_names xs zs ≡ Smaller)
-        → (x < y) ⊎ ((x ≡ y) × (compare_names xs ys ≡ Smaller)) → (y < z) ⊎ ((y ≡ z) × (compare_names ys zs ≡ Smaller))
-        → cond (ltb x z) Smaller (cond (ltb z x) Larger (compare_names xs zs)) ≡ Smaller
+    split : (compare_names xs ys ≡ Less → compare_names ys zs ≡ Less → compare_names xs zs ≡ Less)
+        → (x < y) ⊎ ((x ≡ y) × (compare_names xs ys ≡ Less)) → (y < z) ⊎ ((y ≡ z) × (compare_names ys zs ≡ Less))
+        → cond (ltb x z) Less (cond (ltb z x) Greater (compare_names xs zs)) ≡ Less
     split h (inl p) (inl q) = rw (lt-ltb x z (omega arith))
     split h (inl p) (inr q) = rw (lt-ltb x z (omega (arith, q.0)))
     split h (inr p) (inl q) = rw (lt-ltb x z (omega (arith, p.0)))
@@ -96,24 +96,24 @@ module _ (first : ℕ → List ℕ) where
   pub order_trans : (a b c : ℕ) → order_by a b ≡ true → order_by b c ≡ true → order_by a c ≡ true
   order_trans a b c e f = split (compare_names (first a) (first b)) (compare_names (first b) (first c)) refl refl e f
     where
-      split : (u v : Comparison) → compare_names (first a) (first b) ≡ u → compare_names (first b) (first c) ≡ v
+      split : (u v : Ordering) → compare_names (first a) (first b) ≡ u → compare_names (first b) (first c) ≡ v
           → smaller_or u (ltb a b) ≡ true → smaller_or v (ltb b c) ≡ true → smaller_or (compare_names (first a) (first c)) (ltb a c) ≡ true
-      split Smaller Smaller p q e f = rw (smaller_trans _ _ _ p q)
-      split Smaller Equal p q e f = rw (← equal_same _ _ q, p)
-      split Smaller Larger p q e f = absurd (let z : ◌≡◌ {A = ℕ} 0 1 = cc in omega arith)
-      split Equal Smaller p q e f = rw (equal_same _ _ p, q)
+      split Less Less p q e f = rw (smaller_trans _ _ _ p q)
+      split Less Equal p q e f = rw (← equal_same _ _ q, p)
+      split Less Greater p q e f = absurd (let z : ◌≡◌ {A = ℕ} 0 1 = cc in omega arith)
+      split Equal Less p q e f = rw (equal_same _ _ p, q)
       split Equal Equal p q e f = rw (equal_same _ _ p, q) (lt-ltb a c (omega (arith, ltb-true a b e, ltb-true b c f)))
-      split Equal Larger p q e f = absurd (let z : ◌≡◌ {A = ℕ} 0 1 = cc in omega arith)
-      split Larger v p q e f = absurd (let z : ◌≡◌ {A = ℕ} 0 1 = cc in omega arith)
+      split Equal Greater p q e f = absurd (let z : ◌≡◌ {A = ℕ} 0 1 = cc in omega arith)
+      split Greater v p q e f = absurd (let z : ◌≡◌ {A = ℕ} 0 1 = cc in omega arith)
 
   pub order-total : (a b : ℕ) → order_by a b ≡ false → (a ≡ b → ⊥) → order_by b a ≡ true
   order-total a b e n = split (compare_names (first a) (first b)) refl e
     where
-      split : (u : Comparison) → compare_names (first a) (first b) ≡ u
+      split : (u : Ordering) → compare_names (first a) (first b) ≡ u
           → smaller_or u (ltb a b) ≡ false → smaller_or (compare_names (first b) (first a)) (ltb b a) ≡ true
-      split Smaller p e = absurd (let z : ◌≡◌ {A = ℕ} 0 1 = cc in omega arith)
+      split Less p e = absurd (let z : ◌≡◌ {A = ℕ} 0 1 = cc in omega arith)
       split Equal p e = rw (flipped (first a) (first b), p) (lt-ltb b a (omega (arith, ltb-false a b e, n)))
-      split Larger p e = rw (flipped (first a) (first b), p)
+      split Greater p e = rw (flipped (first a) (first b), p)
 
 -- `before` is a strict total order
 module _ (d : Dims) (names : List ℕ) (w k : ℕ) where

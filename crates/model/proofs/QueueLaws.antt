@@ -13,7 +13,7 @@ use lib.Seq.{take-suc-set, take-append-le, take-take, length-take-le}
 use borrow.Author.Tests.{ltb-true, eqb-true}
 use Rattle.model.specs.declared.Delivery.{Delivery}
 use Rattle.model.specs.declared.Queue.{Queue}
-use Rattle.model.specs.declared.Refusal.{Refusal}
+use Rattle.model.specs.Tests.{Refusal}
 use Rattle.model.specs.declared.Waiting.{Waiting}
 use Rattle.model.specs.Tests.{within, chk}
 use Rattle.model.specs.Numbers.{max_date}

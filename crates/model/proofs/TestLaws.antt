@@ -10,7 +10,7 @@ use native.Mathlib.Decide.{ℕ_discrete}
 use native.Mathlib.Numerals.{add-one}
 use lib.Dec.{leb, ltb, eqb}
 use borrow.Author.Tests.{leb-true, le-leb, ltb-true, eqb-false, not-true, not-false}
-use Rattle.model.specs.declared.Refusal.{Refusal}
+use Rattle.model.specs.Tests.{Refusal}
 use Rattle.model.specs.Tests.{and_all, every, within, all_to, Check, chk, bare, refusal, fault, staged}
 use Rattle.model.specs.Claim.{R}
 

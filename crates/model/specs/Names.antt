@@ -1,13 +1,11 @@
 -- Names, and finding a customer of a district.
 -- Assumes nothing.
-use Rattle.std.specs.Prelude.{Bool, true, false, ◌&&◌, not, cond, List, [], ◌∷◌, ◌++◌, ℕ, zero, suc, ◌+◌, ◌-◌, ◌*◌, ◌/◌, leb, ltb, eqb, length, get_or, take, drop, replicate}
+use Rattle.std.specs.Prelude.{Bool, true, false, ◌&&◌, not, cond, List, [], ◌∷◌, ◌++◌, ℕ, zero, suc, ◌+◌, ◌-◌, ◌*◌, ◌/◌, leb, ltb, eqb, length, get_or, take, drop, replicate, Option, Some, None}
+use Rattle.std.specs.declared.cmp.Ordering.{Ordering}
+use Rattle.std.specs.declared.cmp.Ordering.TheVariants.{Less, Equal, Greater}
 use Rattle.model.specs.declared.Dims.{Dims}
-use Rattle.model.specs.declared.Comparison.{Comparison}
-use Rattle.model.specs.declared.Comparison.TheVariants.{Smaller, Equal, Larger}
 use Rattle.model.specs.declared.Selection.{Selection}
 use Rattle.model.specs.declared.Selection.TheVariants.{Number, LastName}
-use Rattle.model.specs.declared.Found.{Found}
-use Rattle.model.specs.declared.Found.TheVariants.{Customer, Nobody}
 use Rattle.model.specs.Tests.{all_to}
 
 -- "Names are 32 bytes per customer, last then first, 16 each": where those of a customer start
@@ -32,21 +30,21 @@ unfoldable pub padded : List ℕ → List ℕ
 padded name = name ++ replicate (16 - length name) 32
 
 -- two names, byte by byte from the left; where one ends first, it is the smaller
-unfoldable pub compare_names : List ℕ → List ℕ → Comparison
+unfoldable pub compare_names : List ℕ → List ℕ → Ordering
 compare_names [] [] = Equal
-compare_names [] (b ∷ y) = Smaller
-compare_names (a ∷ x) [] = Larger
-compare_names (a ∷ x) (b ∷ y) = cond (ltb a b) Smaller (cond (ltb b a) Larger (compare_names x y))
+compare_names [] (b ∷ y) = Less
+compare_names (a ∷ x) [] = Greater
+compare_names (a ∷ x) (b ∷ y) = cond (ltb a b) Less (cond (ltb b a) Greater (compare_names x y))
 
-abbrev pub is_equal : Comparison → Bool
-is_equal Smaller = false
+abbrev pub is_equal : Ordering → Bool
+is_equal Less = false
 is_equal Equal = true
-is_equal Larger = false
+is_equal Greater = false
 
-abbrev pub smaller_or : Comparison → Bool → Bool
-smaller_or Smaller t = true
+abbrev pub smaller_or : Ordering → Bool → Bool
+smaller_or Less t = true
 smaller_or Equal t = t
-smaller_or Larger t = false
+smaller_or Greater t = false
 
 -- customer c has the last name, which has 16 bytes
 unfoldable pub named : Dims → List ℕ → ℕ → ℕ → List ℕ → ℕ → Bool
@@ -79,37 +77,37 @@ abbrev pub place_of : ℕ → ℕ
 place_of n = (n + 1) / 2
 
 -- ".. is taken": the entry at that place, counted from 1
-abbrev pub taken : List ℕ → Found
-taken [] = Nobody
-taken (x ∷ xs) = Customer (get_or (x ∷ xs) (place_of (length (x ∷ xs)) - 1) 0)
+abbrev pub taken : List ℕ → Option ℕ
+taken [] = None
+taken (x ∷ xs) = Some (get_or (x ∷ xs) (place_of (length (x ∷ xs)) - 1) 0)
 
 -- 10: "Nobody in the district has the last name (always so when it is empty or over 16 bytes)."
-unfoldable pub found : Dims → List ℕ → ℕ → ℕ → List ℕ → Found
-found d names w k name = cond (leb 1 (length name) && leb (length name) 16) (taken (namesakes d names w k (padded name))) Nobody
+unfoldable pub found : Dims → List ℕ → ℕ → ℕ → List ℕ → Option ℕ
+found d names w k name = cond (leb 1 (length name) && leb (length name) 16) (taken (namesakes d names w k (padded name))) None
 
 -- "Who is a number or a last name"
 pub data Who : Type 0 where
   by_number : ℕ → Who
   by_name : List ℕ → Who
 
--- who as code holds it: the last name is lent beside
-abbrev pub who_of : Selection → List ℕ → Who
-who_of (Number c) name = by_number c
-who_of LastName name = by_name name
+-- who as code holds it: the last name is lent
+abbrev pub who_of : Selection → Who
+who_of (Number c) = by_number c
+who_of (LastName name) = by_name name.now
 
 -- "finding a customer answers with a number or with nobody"
-unfoldable pub customer_of : Dims → List ℕ → ℕ → ℕ → Who → Found
-customer_of d names w k (by_number c) = Customer c
+unfoldable pub customer_of : Dims → List ℕ → ℕ → ℕ → Who → Option ℕ
+customer_of d names w k (by_number c) = Some c
 customer_of d names w k (by_name name) = found d names w k name
 
-abbrev pub is_found : Found → Bool
-is_found (Customer c) = true
-is_found Nobody = false
+abbrev pub is_found : Option ℕ → Bool
+is_found (Some c) = true
+is_found None = false
 
 -- the number found; 0 for nobody
-abbrev pub found_number : Found → ℕ
-found_number (Customer c) = c
-found_number Nobody = 0
+abbrev pub found_number : Option ℕ → ℕ
+found_number (Some c) = c
+found_number None = 0
 
 -- 6, of a customer given by number
 abbrev pub who_tests : Dims → Who → List Bool

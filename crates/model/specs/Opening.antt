@@ -2,7 +2,7 @@
 -- Assumes nothing.
 use Rattle.std.specs.Prelude.{◌≡◌, Bool, List, [], ◌∷◌, ◌++◌, ℕ, leb, eqb, ℤ, length}
 use Rattle.model.specs.declared.Dims.{Dims}
-use Rattle.model.specs.declared.Refusal.{Refusal}
+use Rattle.model.specs.Tests.{Refusal}
 use Rattle.model.specs.Tests.{every, all_to, Check, chk, fault}
 use Rattle.model.specs.Numbers.{nat, max_rate}
 use Rattle.model.specs.Layout.{shapes}

@@ -3,7 +3,7 @@
 use Rattle.std.specs.Prelude.{Bool, cond, List, [], ◌∷◌, ℕ, suc, ltb, eqb, ℤ, pos, ◌+ℤ◌, ◌-ℤ◌, length, get_or}
 use Rattle.model.specs.declared.Dims.{Dims}
 use Rattle.model.specs.declared.Payment.{Payment}
-use Rattle.model.specs.declared.Refusal.{Refusal}
+use Rattle.model.specs.Tests.{Refusal}
 use Rattle.model.specs.Tests.{every, within, Check, chk, staged}
 use Rattle.model.specs.Numbers.{max_date}
 use Rattle.model.specs.Layout.{shapes}

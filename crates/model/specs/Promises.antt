@@ -1,7 +1,7 @@
 -- What each call's contract says: its answer, what stands beside it, and what it leaves of all that is lent to be written; for every book and every
 -- request, refused ones included. What is lent to be read only is left as it is.
 -- Assumes nothing.
-use Rattle.std.specs.Prelude.{◌≡◌, List, ℕ, ◌+◌, ◌*◌, ℤ}
+use Rattle.std.specs.Prelude.{◌≡◌, List, ℕ, ◌+◌, ◌*◌, ℤ, Result}
 use Rattle.model.specs.declared.Line.{Line}
 use Rattle.model.specs.declared.NewOrder.{NewOrder}
 use Rattle.model.specs.declared.Payment.{Payment}
@@ -15,7 +15,8 @@ use Rattle.model.specs.declared.NewOrderAnswer.{NewOrderAnswer}
 use Rattle.model.specs.declared.PaymentAnswer.{PaymentAnswer}
 use Rattle.model.specs.declared.DeliveryAnswer.{DeliveryAnswer}
 use Rattle.model.specs.declared.QueueAnswer.{QueueAnswer}
-use Rattle.model.specs.declared.StatusOutcome.{StatusOutcome}
+use Rattle.model.specs.declared.Refused.{Refused}
+use Rattle.model.specs.declared.StatusFigures.{StatusFigures}
 use Rattle.model.specs.declared.StockLevelAnswer.{StockLevelAnswer}
 use Rattle.model.specs.Names.{Who}
 use Rattle.model.specs.Answer.{opening_says, new_order_says, payment_says, delivery_says, queue_says, status_says, stock_level_says}
@@ -63,7 +64,7 @@ pub record RunCall (b : List ℤ) (names : List ℕ) (q : Queue) (date : ℕ) (b
   pub writes : written ≡ run_buffer b names q date buffer
 
 -- "its lines are shown as that part of the lent book, not copied": the returned slice lies in the lent one, 8 bytes a number
-pub record StatusCall (b : List ℤ) (names : List ℕ) (last : List ℤ) (q : OrderStatus) (who : Who) (outcome : StatusOutcome) (shown : List ℤ) (book at : ℕ × ℕ) : Type 0 where
+pub record StatusCall (b : List ℤ) (names : List ℕ) (last : List ℤ) (q : OrderStatus) (who : Who) (outcome : Result StatusFigures Refused) (shown : List ℤ) (book at : ℕ × ℕ) : Type 0 where
   pub says : status_says outcome ≡ status_answer b names last q who
   pub shows : shown ≡ status_lines b names last q who
   pub lies : at ≡ (book.0, book.1 + 8 * (status_part b names last q who).from)

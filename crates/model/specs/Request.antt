@@ -1,15 +1,15 @@
 -- A request of any kind, and what carrying it out answers and leaves.
 -- Assumes nothing.
-use Rattle.std.specs.Prelude.{List, [], ◌∷◌, ℕ, ℤ, get_or, take, replicate}
+use Rattle.std.specs.Prelude.{List, ℕ, ℤ, take, replicate}
 use Rattle.model.specs.declared.Delivery.{Delivery}
 use Rattle.model.specs.declared.Form.{Form}
-use Rattle.model.specs.declared.LastName.{LastName}
+use Rattle.model.specs.declared.Lines.{Lines}
 use Rattle.model.specs.declared.Line.{Line}
 use Rattle.model.specs.declared.NewOrder.{NewOrder}
 use Rattle.model.specs.declared.OrderStatus.{OrderStatus}
 use Rattle.model.specs.declared.Part.{Part}
 use Rattle.model.specs.declared.Payment.{Payment}
-use Rattle.model.specs.declared.Refusal.{Refusal}
+use Rattle.model.specs.Tests.{Refusal}
 use Rattle.model.specs.declared.StockLevel.{StockLevel}
 use Rattle.model.specs.Names.{Who, who_of}
 use Rattle.model.specs.Answer.{Answer}
@@ -26,28 +26,21 @@ pub data Request : Type 0 where
   order_status : OrderStatus → Who → Request
   stock_level : StockLevel → Request
 
--- a request as code holds it: its form, with lines and last name lent beside
-abbrev pub request_of : Form → List Line → List ℕ → Request
-request_of (Form.NewOrder q) lines name = new_order q lines
-request_of (Form.Payment q s) lines name = payment q (who_of s name)
-request_of (Form.Delivery q) lines name = delivery q
-request_of (Form.OrderStatus q s) lines name = order_status q (who_of s name)
-request_of (Form.StockLevel q) lines name = stock_level q
+-- a request as code holds it: its form, with the lines beside
+abbrev pub request_of : Form → List Line → Request
+request_of (Form.NewOrder q) lines = new_order q lines
+request_of (Form.Payment q s) lines = payment q (who_of s)
+request_of (Form.Delivery q) lines = delivery q
+request_of (Form.OrderStatus q s) lines = order_status q (who_of s)
+request_of (Form.StockLevel q) lines = stock_level q
 
--- lines that reach a call as three lists of numbers: line i is entry i of the three, and there are as many as the shortest has entries
-unfoldable pub lines_of : List ℕ → List ℕ → List ℕ → List Line
-lines_of [] ss qs = []
-lines_of (i ∷ is) [] qs = []
-lines_of (i ∷ is) (s ∷ ss) [] = []
-lines_of (i ∷ is) (s ∷ ss) (q ∷ qs) = record { item = i; supply = s; quantity = q } ∷ lines_of is ss qs
+-- what stands for a line past the last
+abbrev pub no_line : Line
+no_line = record { item = 0; supply = 0; quantity = 0 }
 
--- entry i of the three
-abbrev pub line_at : List ℕ → List ℕ → List ℕ → ℕ → Line
-line_at is ss qs i = record { item = get_or is i 0; supply = get_or ss i 0; quantity = get_or qs i 0 }
-
--- the last name that an array of fixed length holds
-abbrev pub name_in : LastName → List ℕ
-name_in n = take n.length n.bytes
+-- the lines that an array of fixed length holds
+abbrev pub lines_in : Lines → List Line
+lines_in l = take l.count l.lines
 
 -- what is lent through a list of calls
 pub record Lent : Type 0 where

@@ -1,22 +1,16 @@
 -- Request lines: which requests have one, its bytes, what reading a line answers, what writing leaves.
 -- Bytes: 10 the line's end, 32 space, 35 #, 61 =, 68 D, 76 L, 78 N, 80 P, 83 S.
 -- Assumes nothing.
-use Rattle.std.specs.Prelude.{Bool, false, ◌&&◌, not, cond, List, [], ◌∷◌, ◌++◌, ℕ, ◌+◌, ◌-◌, ◌*◌, ◌/◌, leb, eqb, pos, length, get_or, take, drop, replicate}
+use Rattle.std.specs.Prelude.{◌≡◌, Bool, false, ◌&&◌, not, cond, List, [], ◌∷◌, ℕ, ◌+◌, ◌-◌, ◌*◌, ◌/◌, leb, eqb, pos, length, get_or, take, drop, Result, Ok, Err}
 use Rattle.model.specs.declared.Form.{Form}
-use Rattle.model.specs.declared.LastName.{LastName}
 use Rattle.model.specs.declared.Line.{Line}
-use Rattle.model.specs.declared.Lines.{Lines}
 use Rattle.model.specs.declared.ReadAnswer.{ReadAnswer}
-use Rattle.model.specs.declared.ReadOutcome.TheVariants as ReadCase
-use Rattle.model.specs.declared.Refusal.{Refusal}
-use Rattle.model.specs.declared.Selection.{Selection}
-use Rattle.model.specs.declared.WriteOutcome.{WriteOutcome}
-use Rattle.model.specs.declared.WriteOutcome.TheVariants as WriteCase
-use Rattle.model.specs.Tests.{every, all_of, chk, fault}
+use Rattle.model.specs.declared.Refused.{Refused}
+use Rattle.model.specs.Tests.{Refusal, bare, every, all_of, chk, fault}
 use Rattle.model.specs.Text.{is_number, value_of, has_digits, decimal, parted, line_text, on_front}
 use Rattle.model.specs.Names.{Who, by_number, by_name}
-use Rattle.model.specs.Answer.{Answer, committed, refused, answer_by, left_by}
-use Rattle.model.specs.Request.{Request, new_order, payment, delivery, order_status, stock_level}
+use Rattle.model.specs.Answer.{Answer, committed, refused, numbered, told, answer_by, left_by}
+use Rattle.model.specs.Request.{Request, new_order, payment, delivery, order_status, stock_level, request_of, lines_in}
 
 -- "Who: # and a number, or = and a name of 1 to 16 bytes 32 to 126, no space at either end."
 abbrev pub is_printable : ℕ → Bool
@@ -170,48 +164,20 @@ unfoldable pub write_buffer : List ℕ → Request → List ℕ
 write_buffer buffer r = left_by (write_fault buffer r) (on_front (line_of r) buffer) buffer
 
 -- document 01's number and values for each case of the code's answers
-abbrev pub write_says : WriteOutcome → Answer
-write_says (WriteCase.Written n) = committed (pos n ∷ [])
-write_says (WriteCase.Refused r) = refused r
+abbrev pub write_says : Result ℕ Refused → Answer
+write_says (Ok n) = committed (pos n ∷ [])
+write_says (Err r) = refused (numbered r)
 
--- a request as reading stores it: what is no part of it is 0
-abbrev pub pad_to : ℕ → List ℕ → List ℕ
-pad_to n xs = xs ++ replicate (n - length xs) 0
+-- reading's: the request, with the lines beside, or the refusal
+abbrev pub read_as : Result Form Refused → List Line → Reading
+read_as (Ok form) lines = read (request_of form lines)
+read_as (Err r) lines = no_form
 
-abbrev pub items_of : List Line → List ℕ
-items_of [] = []
-items_of (l ∷ lines) = l.item ∷ items_of lines
+abbrev pub read_fault : Reading → Refusal
+read_fault (read r) = bare 0
+read_fault no_form = refused1
 
-abbrev pub supplies_of : List Line → List ℕ
-supplies_of [] = []
-supplies_of (l ∷ lines) = l.supply ∷ supplies_of lines
-
-abbrev pub quantities_of : List Line → List ℕ
-quantities_of [] = []
-quantities_of (l ∷ lines) = l.quantity ∷ quantities_of lines
-
-abbrev pub stored_lines : List Line → Lines
-stored_lines lines =
-    record { count = length lines; items = pad_to 15 (items_of lines); supplies = pad_to 15 (supplies_of lines); quantities = pad_to 15 (quantities_of lines) }
-
-abbrev pub stored_name : List ℕ → LastName
-stored_name name = record { length = length name; bytes = pad_to 16 name }
-
-abbrev pub selection : Who → Selection
-selection (by_number c) = Selection.Number c
-selection (by_name name) = Selection.LastName
-
-abbrev pub name_of_who : Who → List ℕ
-name_of_who (by_number c) = []
-name_of_who (by_name name) = name
-
-abbrev pub stored_form : Form → List Line → List ℕ → ReadAnswer
-stored_form form lines name = record { outcome = ReadCase.Request form; lines = stored_lines lines; name = stored_name name }
-
-unfoldable pub stored : Reading → ReadAnswer
-stored (read (new_order q lines)) = stored_form (Form.NewOrder q) lines []
-stored (read (payment q who)) = stored_form (Form.Payment q (selection who)) [] (name_of_who who)
-stored (read (delivery q)) = stored_form (Form.Delivery q) [] []
-stored (read (order_status q who)) = stored_form (Form.OrderStatus q (selection who)) [] (name_of_who who)
-stored (read (stock_level q)) = stored_form (Form.StockLevel q) [] []
-stored no_form = record { outcome = ReadCase.Refused refused1; lines = stored_lines []; name = stored_name [] }
+-- the answer says what was read
+pub record ReadSays (r : Reading) (a : ReadAnswer) : Type 0 where
+  pub request : read_as a.outcome (lines_in a.lines) ≡ r
+  pub refusal : told a.outcome ≡ read_fault r

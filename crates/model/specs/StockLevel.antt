@@ -2,7 +2,7 @@
 -- Assumes nothing.
 use Rattle.std.specs.Prelude.{Bool, cond, List, [], ◌∷◌, ◌++◌, ℕ, zero, suc, ◌+◌, ◌-◌, leb, ltb, ℤ, pos, length}
 use Rattle.model.specs.declared.Dims.{Dims}
-use Rattle.model.specs.declared.Refusal.{Refusal}
+use Rattle.model.specs.Tests.{Refusal}
 use Rattle.model.specs.declared.StockLevel.{StockLevel}
 use Rattle.model.specs.Tests.{within, all_to, Check, chk, staged}
 use Rattle.model.specs.Numbers.{nat}

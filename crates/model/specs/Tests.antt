@@ -1,7 +1,6 @@
 -- Tests, and refusals as lists of numbered tests in checking order. `cond test a b` of the library is a where the test is true, else b.
 -- Assumes nothing.
 use Rattle.std.specs.Prelude.{Bool, true, ◌&&◌, cond, List, [], ◌∷◌, ◌++◌, ℕ, zero, suc, leb, eqb}
-use Rattle.model.specs.declared.Refusal.{Refusal}
 
 abbrev pub and_all : Bool → List Bool → Bool
 and_all a [] = a
@@ -33,6 +32,11 @@ chk t n = record { ok = t; number = n; detail = 0 }
 -- the place of the first offending line, 0 where there is none, is the test's detail
 abbrev pub chk_line : ℕ → ℕ → Check
 chk_line place n = record { ok = eqb place 0; number = n; detail = place }
+
+-- a refusal by its number and detail; number 0 where nothing is refused
+pub record Refusal : Type 0 where
+  pub number : ℕ
+  pub detail : ℕ
 
 -- a refusal without detail
 abbrev pub bare : ℕ → Refusal

@@ -2,6 +2,9 @@
 // Document 01's depot is a warehouse here, as in TPC-C.
 #![tactic(auto)]
 
+ghost use Rattle.std.specs.Prelude.{◌≡◌, ◌≤◌, take};
+ghost use Rattle.model.specs.Answer.{numbered};
+
 // The head numbers that fix the book's size: W, C, I, O and H.
 #[derive(Clone, Copy)]
 pub struct Dims {
@@ -79,44 +82,76 @@ pub struct StockLevel {
     pub threshold: u64,
 }
 
-// Who: a customer number, or the last name that is lent beside.
+// Who: a customer number, or a lent last name.
 #[derive(Clone, Copy)]
-pub enum Selection {
+pub enum Selection<'a> {
     Number(u64),
-    LastName,
+    LastName(&'a [u8]),
 }
 
-// How two names compare, byte by byte from the left.
-#[derive(Clone, Copy)]
-pub enum Comparison {
-    Smaller,
-    Equal,
-    Larger,
-}
-
-// What finding a customer answers.
-#[derive(Clone, Copy)]
-pub enum Found {
-    Customer(u64),
+// Why a request is refused, in the order of the papers' numbers. `Range` and `Item` have the place of the first offending line, from 1; `Range` has 0 where a
+// number of the request itself is out of range.
+#[derive(Clone, Copy, Debug, PartialEq, Eq)]
+pub enum Refused {
+    NoForm,
+    Head,
+    NotNew,
+    Warehouse,
+    District,
+    Customer,
+    Date,
+    Range(u64),
+    Row,
     Nobody,
+    Full,
+    Item(u64),
+    LastOrders,
+    Notes,
+    QueueFull,
+    NotRun,
+    TopUp,
 }
 
-// A refusal's number and detail; both 0 where nothing is refused.
-#[derive(Clone, Copy)]
-pub struct Refusal {
-    pub number: u64,
-    pub detail: u64,
-}
+impl Refused {
+    // Its number in the list of refusals.
+    pub fn number(self) -> u64
+        ensures { result ≡ (numbered self).number }
+    {
+        match self {
+            Refused::NoForm => 1,
+            Refused::Head => 2,
+            Refused::NotNew => 3,
+            Refused::Warehouse => 4,
+            Refused::District => 5,
+            Refused::Customer => 6,
+            Refused::Date => 7,
+            Refused::Range(_) => 8,
+            Refused::Row => 9,
+            Refused::Nobody => 10,
+            Refused::Full => 11,
+            Refused::Item(_) => 12,
+            Refused::LastOrders => 13,
+            Refused::Notes => 14,
+            Refused::QueueFull => 15,
+            Refused::NotRun => 16,
+            Refused::TopUp => 17,
+        }
+    }
 
-#[derive(Clone, Copy)]
-pub enum OpeningOutcome {
-    Accepted,
-    Refused(Refusal),
+    // Its detail: the place of a line, else 0.
+    pub fn detail(self) -> u64
+        ensures { result ≡ (numbered self).detail }
+    {
+        match self {
+            Refused::Range(line) | Refused::Item(line) => line,
+            _ => 0,
+        }
+    }
 }
 
 #[derive(Clone, Copy)]
 pub struct OpeningAnswer {
-    pub outcome: OpeningOutcome,
+    pub outcome: Result<(), Refused>,
 }
 
 // R-6: `lifts` is how many of the order's lines lifted their stock.
@@ -128,14 +163,8 @@ pub struct NewOrderFigures {
 }
 
 #[derive(Clone, Copy)]
-pub enum NewOrderOutcome {
-    Committed(NewOrderFigures),
-    Refused(Refusal),
-}
-
-#[derive(Clone, Copy)]
 pub struct NewOrderAnswer {
-    pub outcome: NewOrderOutcome,
+    pub outcome: Result<NewOrderFigures, Refused>,
 }
 
 #[derive(Clone, Copy)]
@@ -145,14 +174,8 @@ pub struct PaymentFigures {
 }
 
 #[derive(Clone, Copy)]
-pub enum PaymentOutcome {
-    Committed(PaymentFigures),
-    Refused(Refusal),
-}
-
-#[derive(Clone, Copy)]
 pub struct PaymentAnswer {
-    pub outcome: PaymentOutcome,
+    pub outcome: Result<PaymentFigures, Refused>,
 }
 
 #[derive(Clone, Copy)]
@@ -161,16 +184,10 @@ pub struct DeliveryFigures {
     pub mark: u64,
 }
 
-#[derive(Clone, Copy)]
-pub enum DeliveryOutcome {
-    Committed(DeliveryFigures),
-    Refused(Refusal),
-}
-
 // The ten order numbers stand beside the outcome.
 #[derive(Clone, Copy)]
 pub struct DeliveryAnswer {
-    pub outcome: DeliveryOutcome,
+    pub outcome: Result<DeliveryFigures, Refused>,
     pub orders: [u64; 10],
 }
 
@@ -181,14 +198,8 @@ pub struct QueueFigures {
 }
 
 #[derive(Clone, Copy)]
-pub enum QueueOutcome {
-    Committed(QueueFigures),
-    Refused(Refusal),
-}
-
-#[derive(Clone, Copy)]
 pub struct QueueAnswer {
-    pub outcome: QueueOutcome,
+    pub outcome: Result<QueueFigures, Refused>,
 }
 
 #[derive(Clone, Copy)]
@@ -198,12 +209,6 @@ pub struct StatusFigures {
     pub order: u64,
     pub date: u64,
     pub carrier: u64,
-}
-
-#[derive(Clone, Copy)]
-pub enum StatusOutcome {
-    Committed(StatusFigures),
-    Refused(Refusal),
 }
 
 // A part of the book's numbers: where it starts, and how many they are.
@@ -219,24 +224,18 @@ pub struct StockLevelFigures {
 }
 
 #[derive(Clone, Copy)]
-pub enum StockLevelOutcome {
-    Committed(StockLevelFigures),
-    Refused(Refusal),
-}
-
-#[derive(Clone, Copy)]
 pub struct StockLevelAnswer {
-    pub outcome: StockLevelOutcome,
+    pub outcome: Result<StockLevelFigures, Refused>,
 }
 
 // What a request of any kind is answered.
 #[derive(Clone, Copy)]
 pub enum RequestOutcome {
-    NewOrder(NewOrderOutcome),
-    Payment(PaymentOutcome),
-    Delivery(DeliveryOutcome),
-    OrderStatus(StatusOutcome),
-    StockLevel(StockLevelOutcome),
+    NewOrder(Result<NewOrderFigures, Refused>),
+    Payment(Result<PaymentFigures, Refused>),
+    Delivery(Result<DeliveryFigures, Refused>),
+    OrderStatus(Result<StatusFigures, Refused>),
+    StockLevel(Result<StockLevelFigures, Refused>),
 }
 
 // Beside the outcome stand Delivery's ten order numbers, 0 for any other request, and the part of the book that a status shows, empty for any other.
@@ -247,51 +246,40 @@ pub struct RequestAnswer {
     pub part: Part,
 }
 
-// A request as reading stores it: its form, and beside it the lines and the last name, of which those in use are part of the request.
+// A request as reading stores it: its form, and beside it the lines, of which those in use are part of the request.
 #[derive(Clone, Copy)]
-pub enum Form {
+pub enum Form<'a> {
     NewOrder(NewOrder),
-    Payment(Payment, Selection),
+    Payment(Payment, Selection<'a>),
     Delivery(Delivery),
-    OrderStatus(OrderStatus, Selection),
+    OrderStatus(OrderStatus, Selection<'a>),
     StockLevel(StockLevel),
 }
 
-// The lines of a New-Order: line i is entry i of the three.
+// The lines of a New-Order: the first `count`.
 #[derive(Clone, Copy)]
 pub struct Lines {
-    pub count: u64,
-    pub items: [u64; 15],
-    pub supplies: [u64; 15],
-    pub quantities: [u64; 15],
+    pub count: usize,
+    pub lines: [Line; 15],
+    ghost fits: { count ≤ 15 },
+}
+
+impl Lines {
+    // Those in use.
+    pub fn as_slice(&self) -> &[Line]
+        ensures { result.now ≡ take self.now.count self.now.lines }
+    {
+        &self.lines[..self.count]
+    }
 }
 
 #[derive(Clone, Copy)]
-pub struct LastName {
-    pub length: u64,
-    pub bytes: [u8; 16],
-}
-
-#[derive(Clone, Copy)]
-pub enum ReadOutcome {
-    Request(Form),
-    Refused(Refusal),
-}
-
-#[derive(Clone, Copy)]
-pub struct ReadAnswer {
-    pub outcome: ReadOutcome,
+pub struct ReadAnswer<'a> {
+    pub outcome: Result<Form<'a>, Refused>,
     pub lines: Lines,
-    pub name: LastName,
-}
-
-#[derive(Clone, Copy)]
-pub enum WriteOutcome {
-    Written(u64),
-    Refused(Refusal),
 }
 
 #[derive(Clone, Copy)]
 pub struct WriteAnswer {
-    pub outcome: WriteOutcome,
+    pub outcome: Result<u64, Refused>,
 }

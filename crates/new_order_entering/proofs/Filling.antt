@@ -1,22 +1,24 @@
 -- Filling the slot: rows written one after the other are one row, and the numbers that the code writes are those of the model's order.
 -- Assumes nothing.
 use mathlib.Core.Path.{◌≡◌, refl, sym, ap, ◌∙◌}
+use mathlib.Core.Bool.{Bool}
 use mathlib.Core.List.{List, [], ◌∷◌, ◌++◌}
 use Prim.Native.Nat.{ℕ, zero, suc, ◌+◌, ◌-◌, ◌*◌, ◌≤◌, ◌<◌}
 use native.Mathlib.Nat.{add-zero, zero-add, add-suc, le_of_suc-le-suc, not-suc-le-zero}
-use native.Mathlib.Numerals.{add-one}
 use native.Mathlib.Omega.{arith}
 use lib.IntN.{ℤ, pos}
-use lib.ListN.{length, get_or, set, get_or-eq_default, get_or-append, length-append}
-use lib.Seq.{get_or-append-add}
+use lib.ListN.{length, get_or, set, take, drop, replicate, get_or-eq_default, get_or-append, length-append, length-take, length-drop}
+use lib.Seq.{get_or-append-add, length-take-le}
+use Rattle.std.proofs.Common.{take-append-drop}
+use borrow.Rule.Slice.PartMut.{put_mid}
 use Rattle.model.specs.declared.Line.{Line}
 use Rattle.model.specs.declared.NewOrder.{NewOrder}
 use Rattle.model.specs.Store.{remap}
 use Rattle.model.specs.NewOrder.{amount_of, line_numbers}
 use Rattle.model.proofs.Frame.{length-remap}
-use Rattle.model.proofs.Rewrite.{remap-none, remap-more, off, puts, puts_row}
+use Rattle.model.proofs.Rewrite.{remap-none, remap-more, remap_part, off, puts, puts_row}
 use Rattle.new_order_entering.specs.Slot.{head_numbers, five, fill}
-use Rattle.model.proofs.Zipped.{no_line}
+use Rattle.model.specs.Request.{no_line}
 
 -- ── m numbers written after k others ──
 pub remap_then : (p k m : ℕ) (f g : ℕ → ℤ → ℤ) (b : List ℤ) → p + (k + m) ≤ length b → ((i : ℕ) (y z : ℤ) → i < m → f (k + i) y ≡ g i z)
@@ -86,7 +88,7 @@ module _ (prices : ℕ → ℕ) where
       ∙ ap (λ (x : ℕ). remap p x 0 f b₀) m
 
   -- the whole slot: the lines, the six numbers before them, zeros
-  pub slot_filled : (q : NewOrder) (ls : List Line) (p n local : ℕ) (b : List ℤ) → n ≡ length ls → n ≤ 15 → p + 81 ≤ length b
+  pub slot_filled : (q : NewOrder) (ls : List Line) (p n : ℕ) (local : Bool) (b : List ℤ) → n ≡ length ls → n ≤ 15 → p + 81 ≤ length b
       → remap (p + (6 + 5 * n)) (81 - (6 + 5 * n)) 0 (fill []) (puts (remap (p + 6) (5 * n) 0 (fill (line_numbers prices ls)) b) p 0 (head_numbers q n local))
       ≡ remap p 81 0 (fill (head_numbers q n local ++ line_numbers prices ls)) b
   slot_filled q ls p n local b e k room =
@@ -105,7 +107,17 @@ module _ (prices : ℕ → ℕ) where
       let m : u + (81 - u) ≡ 81 = omega arith in
       ap (λ (x : List ℤ). remap (p + u) (81 - u) 0 (fill []) x) s2 ∙ t ∙ ap (λ (x : ℕ). remap p x 0 f b) m
 
--- one 0 more
-pub zero_filled : (p m i : ℕ) (b₀ b : List ℤ) → i < m → p + m ≤ length b₀ → b ≡ remap p i 0 (fill []) b₀ → {c : List ℤ} → c ≡ set b (p + i) (pos 0) → c ≡ remap p (i + 1) 0 (fill []) b₀
-zero_filled p m i b₀ b h room eb s =
-    s ∙ ap (λ (x : List ℤ). set x (p + i) (pos 0)) eb ∙ sym (remap-more p i 0 (fill []) b₀ (omega arith)) ∙ ap (λ (x : ℕ). remap p x 0 (fill []) b₀) (sym (add-one i))
+-- ── zeros in a part of the book ──
+row_zero : (k : ℕ) (ys : List ℤ) → remap 0 (length ys) k (fill []) ys ≡ replicate (length ys) (pos 0)
+unfolding remap
+row_zero k [] = refl
+row_zero k (y ∷ ys) = ap (λ (l : List ℤ). pos 0 ∷ l) (row_zero (suc k) ys)
+
+-- m zeros written from p on, as the slice's `fill` leaves the part from p to p + m
+pub zeros_put : (p m n : ℕ) (b : List ℤ) {t : List ℤ} → n ≡ m → p + m ≤ length b → t ≡ replicate (length (take n (drop p b))) (pos 0) → put_mid p n b t ≡ remap p m 0 (fill []) b
+zeros_put p m n b e h t-is =
+    let ys = take m (drop p b) in
+    let lp : length (take p b) ≡ p = length-take-le p b (omega arith) in
+    let lm : length (take m (drop p b)) ≡ m = simp (length-take, length-drop) (omega arith) in
+    let part = remap_part (take p b) ys (drop m (drop p b)) 0 m 0 (fill []) (omega arith) in
+    rw (t-is, e, ← row_zero 0 (take m (drop p b)), lm) (sym part ∙ rw (lp, add-zero p, take-append-drop m (drop p b), take-append-drop p b))

@@ -1,6 +1,6 @@
 -- The text's length, and a note written number by number.
 -- Assumes nothing.
-use mathlib.Core.Path.{◌≡◌, refl, sym, ap, ◌∙◌, subst}
+use mathlib.Core.Path.{◌≡◌, sym, ap, ◌∙◌, subst}
 use mathlib.Core.List.{List, [], ◌∷◌, ◌++◌, append_assoc}
 use Prim.Native.Nat.{ℕ, ◌+◌, ◌*◌, ◌/◌, ◌%◌, ◌≤◌, ◌<◌}
 use native.Mathlib.Nat.{mul_assoc, mod-eq_of_lt}
@@ -25,9 +25,6 @@ long-is d notes e =
     ∙ ap (eqb (length notes)) (sym (mul_assoc 500 (10 * d.warehouses) d.customers) ∙ ap (λ (i : ℕ). i * d.customers) (sym (mul_assoc 500 10 d.warehouses)))
 
 -- ── a number with the byte after it ──
-pub last-two : (l : List ℕ) (at y x : ℕ) → Wrote l (set (set l at y) (at + 1) x) at (at + 2) (y ∷ x ∷ [])
-last-two l at y x = record { same = ap (λ (i : ℕ). set (set l at y) i x) (add-one at); place = refl }
-
 -- a number of three digits or more, by its last two
 module _ (n : ℕ) (h : 10 ≤ n) (u : n < 100000000000000000000) (t : 10 ≤ n / 10) where
   tens_fit : n / 10 < 100000000000000000000
@@ -40,8 +37,8 @@ module _ (n : ℕ) (h : 10 ≤ n) (u : n < 100000000000000000000) (t : 10 ≤ n 
       rw (dec_more n h u, dec_more (n / 10) t tens_fit, append_assoc d tens ((48 + n % 10) ∷ []), append_assoc d ((48 + n / 10 % 10) ∷ (48 + n % 10) ∷ []) (x ∷ []))
 
   -- the digits before them leave room
-  pub few-digits : length (decimal (n / 10 / 10)) ≤ 18
-  few-digits = omega (arith, length_more n h u, length_more (n / 10) t tens_fit, dec_most n)
+  pub few_digits : length (decimal (n / 10 / 10)) ≤ 18
+  few_digits = omega (arith, length_more n h u, length_more (n / 10) t tens_fit, dec_most n)
 
 module _ {l m : List ℕ} {at r : ℕ} (n x : ℕ) where
   pub one_digit : n < 10 → Wrote l m at r ((48 + n % 10) ∷ x ∷ []) → Wrote l m at r (decimal n ++ (x ∷ []))

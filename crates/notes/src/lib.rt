@@ -32,6 +32,7 @@ fn put_last(text: &mut [u8], at: usize, n: u64, x: u8) -> usize
 
 // A number's digits and the byte after them, where there is room for the longest. The last two digits are put here, so that a district or a warehouse is
 // written without a call.
+#[tactic(auto, using(crate::proofs::Writing::few_digits))]
 fn put_number(text: &mut [u8], at: usize, n: u64, x: u8) -> usize
     requires { at + 21 ≤ length text.old }
     ensures { Wrote text.old text.new at result (decimal n ++ (x ∷ [])) × (result ≤ at + 21) }
@@ -54,12 +55,12 @@ fn write_note(text: &mut [u8], q: Payment, c: u64) -> usize
     requires { 126 ≤ length text.old }
     ensures { Wrote text.old text.new 0 result (note_of q c) × (result ≤ 126) }
 {
-    let custdistrict = put_number(text, 0, c, 32);
-    let custwarehouse = put_number(text, custdistrict, q.custdistrict, 32);
-    let district = put_number(text, custwarehouse, q.custwarehouse, 32);
-    let warehouse = put_number(text, district, q.district, 32);
-    let amount = put_number(text, warehouse, q.warehouse, 32);
-    put_number(text, amount, q.amount, 59)
+    let custdistrict = put_number(text, 0, c, b' ');
+    let custwarehouse = put_number(text, custdistrict, q.custdistrict, b' ');
+    let district = put_number(text, custwarehouse, q.custwarehouse, b' ');
+    let warehouse = put_number(text, district, q.district, b' ');
+    let amount = put_number(text, warehouse, q.warehouse, b' ');
+    put_number(text, amount, q.amount, b';')
 }
 
 // A customer's 500 bytes: the note at the left, then the old text as far as there is room. Out and back are two plain copies.

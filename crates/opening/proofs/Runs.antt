@@ -1,13 +1,13 @@
 -- A test of a row, made from the row's start, at the row's address; rows that follow each other.
 -- Assumes nothing.
-use mathlib.Core.Path.{◌≡◌, ap, ◌∙◌}
+use mathlib.Core.Path.{◌≡◌, sym, ap, ◌∙◌}
 use mathlib.Core.Bool.{Bool}
 use mathlib.Core.List.{List}
 use Prim.Native.Nat.{ℕ, ◌+◌, ◌*◌, ◌<◌}
 use lib.IntN.{ℤ}
 use Rattle.model.specs.declared.Dims.{Dims}
 use Rattle.model.specs.Tests.{every}
-use Rattle.model.specs.Layout.{at, place, shapes}
+use Rattle.model.specs.Layout.{place, shapes}
 use Rattle.model.specs.Store.{from, row_of}
 use Rattle.model.specs.Rows.{warehouse_row, district_row, customer_row, price, item_tests, stock_row}
 use Rattle.model.specs.Used.{item_used}
@@ -18,16 +18,13 @@ use Rattle.rows.proofs.Runs.{customer-run, item-run, stock-run}
 use Rattle.rows.proofs.RowTests.{item_test}
 use Rattle.opening.specs.New.{customer_new, stock_new}
 
-row_is : (d : Dims) (b : List ℤ) (s x y z : ℕ) {p : ℕ} → p ≡ place (shapes d) (at s x y z 0) → from b p ≡ row_of (shapes d) b (at s x y z 0)
-row_is d b s x y z e = ap (from b) e ∙ row_read (shapes d) b s x y z
+pub warehouse_at_row : (d : Dims) (b : List ℤ) (w : ℕ) → every (new_warehouse (row_of (shapes d) b (warehouse_row w))) ≡ every (new_warehouse (from b (place (shapes d) (warehouse_row w))))
+warehouse_at_row d b w = ap (λ (r : ℕ → ℤ). every (new_warehouse r)) (sym (row_read (shapes d) b 1 w 1 1))
+
+pub district_at_row : (d : Dims) (b : List ℤ) (w k : ℕ) → every (new_district (row_of (shapes d) b (district_row w k))) ≡ every (new_district (from b (place (shapes d) (district_row w k))))
+district_at_row d b w k = ap (λ (r : ℕ → ℤ). every (new_district r)) (sym (row_read (shapes d) b 2 w k 1))
 
 module _ (d : Dims) (b : List ℤ) {p : ℕ} {t : Bool} where
-  pub warehouse-row : (w : ℕ) → p ≡ place (shapes d) (warehouse_row w) → t ≡ every (new_warehouse (from b p)) → t ≡ every (new_warehouse (row_of (shapes d) b (warehouse_row w)))
-  warehouse-row w e h = h ∙ ap (λ (r : ℕ → ℤ). every (new_warehouse r)) (row_is d b 1 w 1 1 e)
-
-  pub district-row : (w k : ℕ) → p ≡ place (shapes d) (district_row w k) → t ≡ every (new_district (from b p)) → t ≡ every (new_district (row_of (shapes d) b (district_row w k)))
-  district-row w k e h = h ∙ ap (λ (r : ℕ → ℤ). every (new_district r)) (row_is d b 2 w k 1 e)
-
   -- row i, from 0, after a first one
   pub customer_new_lem : (w k i : ℕ) → R d.warehouses w → R 10 k → i < d.customers → p ≡ place (shapes d) (customer_row w k 1)
       → t ≡ every (new_customer (from b (p + 6 * i))) → t ≡ customer_new d b w k (i + 1)

@@ -2,20 +2,20 @@
 
 ghost use Rattle.std.specs.Prelude.{◌≡◌, ◌+◌, ◌≤◌, length};
 ghost use Rattle.model.specs.Tests.{every, all_to};
+ghost use Rattle.model.specs.Layout.{name_bytes};
 ghost use Rattle.model.specs.Store.{from};
 ghost use Rattle.model.specs.Used.{item_used};
-ghost use Rattle.model.specs.Answer.{refused, opening_says};
+ghost use Rattle.model.specs.Answer.{told};
 ghost use Rattle.model.specs.Promises.{OpeningCall};
-ghost use Rattle.model.specs.Opening.{new_warehouse, new_district, new_customer, new_stock, district_new, warehouse_new, book_new};
+ghost use Rattle.model.specs.Opening.{opening_fault, new_warehouse, new_district, new_customer, new_stock, district_new, warehouse_new, book_new};
 ghost use Rattle.model.specs.Claim.{R};
-ghost use Rattle.model.proofs.Fields.{Shaped};
-ghost use Rattle.rows.specs.Book.{Booked};
 ghost use Rattle.opening.specs.New.{customer_new, stock_new};
 
-use layout::Head;
-use model::{Dims, OpeningAnswer, OpeningOutcome, Refusal};
+use model::{OpeningAnswer, Refused};
+use rows::Book;
 
 // A new warehouse's row: its tax in range, its money to date 0.
+#[tactic(auto, unfolding(model::specs::Opening::new_warehouse), using(model::proofs::Fields::from_cell))]
 fn new_warehouse(b: &[i64], p: u64) -> bool
     requires { p + 2 ≤ length b.now }
     ensures { result ≡ every (new_warehouse (from b.now p)) }
@@ -26,6 +26,7 @@ fn new_warehouse(b: &[i64], p: u64) -> bool
 }
 
 // A new district's row: its tax in range, its money to date 0, its next order number 1.
+#[tactic(auto, unfolding(model::specs::Opening::new_district), using(model::proofs::Fields::from_cell))]
 fn new_district(b: &[i64], p: u64) -> bool
     requires { p + 3 ≤ length b.now }
     ensures { result ≡ every (new_district (from b.now p)) }
@@ -37,6 +38,7 @@ fn new_district(b: &[i64], p: u64) -> bool
 }
 
 // A new customer's row: its credit and discount in range, the rest 0.
+#[tactic(auto, unfolding(model::specs::Opening::new_customer), using(model::proofs::Fields::from_cell))]
 fn new_customer(b: &[i64], p: u64) -> bool
     requires { p + 6 ≤ length b.now }
     ensures { result ≡ every (new_customer (from b.now p)) }
@@ -56,6 +58,7 @@ fn new_customer(b: &[i64], p: u64) -> bool
 }
 
 // A new stock's row: its on hand in range, the rest 0.
+#[tactic(auto, unfolding(model::specs::Opening::new_stock), using(model::proofs::Fields::from_cell))]
 fn new_stock(b: &[i64], p: u64) -> bool
     requires { p + 4 ≤ length b.now }
     ensures { result ≡ every (new_stock (from b.now p)) }
@@ -68,149 +71,101 @@ fn new_stock(b: &[i64], p: u64) -> bool
 }
 
 // All customers of a district.
-fn new_customers(b: &[i64], d: Dims, w: u64, k: u64) -> bool
-    requires { Booked d b.now × (R d.warehouses w × R 10 k) }
-    ensures { result ≡ all_to d.customers (customer_new d b.now w k) }
+fn new_customers(book: &Book, w: u64, k: u64) -> bool
+    requires { R book.now.dims.warehouses w × R 10 k }
+    ensures { result ≡ all_to book.now.dims.customers (customer_new book.now.dims book.now.nums.now w k) }
 {
-    let base = layout::customer_at(d, w, k, 1);
-    let mut i = 0;
-    while i < d.customers {
-        if !new_customer(b, base + 6 * i) {
-            return false;
-        }
-        i += 1;
-    }
-    true
+    let base = layout::customer_at(book.dims, w, k, 1);
+    (0..book.dims.customers).all(|i| new_customer(book.nums, base + 6 * i))
 }
 
 // The stock of all items at a warehouse.
-fn new_stocks(b: &[i64], d: Dims, w: u64) -> bool
-    requires { Booked d b.now × R d.warehouses w }
-    ensures { result ≡ all_to d.items (stock_new d b.now w) }
+fn new_stocks(book: &Book, w: u64) -> bool
+    requires { R book.now.dims.warehouses w }
+    ensures { result ≡ all_to book.now.dims.items (stock_new book.now.dims book.now.nums.now w) }
 {
-    let base = layout::stock_at(d, w, 1);
-    let mut i = 0;
-    while i < d.items {
-        if !new_stock(b, base + 4 * i) {
-            return false;
-        }
-        i += 1;
-    }
-    true
+    let base = layout::stock_at(book.dims, w, 1);
+    (0..book.dims.items).all(|i| new_stock(book.nums, base + 4 * i))
 }
 
 // The prices of all items.
-fn items_used(b: &[i64], d: Dims) -> bool
-    requires { Booked d b.now }
-    ensures { result ≡ all_to d.items (item_used d b.now) }
+fn items_used(book: &Book) -> bool
+    ensures { result ≡ all_to book.now.dims.items (item_used book.now.dims book.now.nums.now) }
 {
-    let base = layout::item_at(d, 1);
-    let mut i = 0;
-    while i < d.items {
-        if !rows::item_ok(b, base + i) {
-            return false;
-        }
-        i += 1;
-    }
-    true
+    let base = layout::item_at(book.dims, 1);
+    (0..book.dims.items).all(|i| rows::item_ok(book.nums, base + i))
 }
 
 // One district: its row, its customers, their names.
-fn district_new(b: &[i64], names: &[u8], d: Dims, w: u64, k: u64) -> bool
-    requires { Shaped d b.now (length names.now) × (R d.warehouses w × R 10 k) }
-    ensures { result ≡ district_new d b.now names.now w k }
+#[tactic(auto, unfolding(model::specs::Opening::district_new), using(crate::proofs::Runs::district_at_row))]
+fn district_new(book: &Book, names: &[u8], w: u64, k: u64) -> bool
+    requires { (length names.now ≡ name_bytes book.now.dims) × (R book.now.dims.warehouses w × R 10 k) }
+    ensures { result ≡ district_new book.now.dims book.now.nums.now names.now w k }
 {
-    let p = layout::district_at(d, w, k);
-    if !new_district(b, p) {
-        return false;
-    }
-    if !new_customers(b, d, w, k) {
-        return false;
-    }
-    lookup::names_used(names, d, w, k)
+    new_district(book.nums, layout::district_at(book.dims, w, k))
+        && new_customers(book, w, k)
+        && lookup::names_used(names, book.dims, w, k)
 }
 
 // The ten districts of a warehouse.
-fn districts_new(b: &[i64], names: &[u8], d: Dims, w: u64) -> bool
-    requires { Shaped d b.now (length names.now) × R d.warehouses w }
-    ensures { result ≡ all_to 10 (district_new d b.now names.now w) }
+fn districts_new(book: &Book, names: &[u8], w: u64) -> bool
+    requires { (length names.now ≡ name_bytes book.now.dims) × R book.now.dims.warehouses w }
+    ensures { result ≡ all_to 10 (district_new book.now.dims book.now.nums.now names.now w) }
 {
-    let mut i = 0;
-    while i < 10 {
-        if !district_new(b, names, d, w, i + 1) {
-            return false;
-        }
-        i += 1;
-    }
-    true
+    (0..10).all(|i| district_new(book, names, w, i + 1))
 }
 
 // One warehouse: its row, its districts, its stock.
-fn warehouse_new(b: &[i64], names: &[u8], d: Dims, w: u64) -> bool
-    requires { Shaped d b.now (length names.now) × R d.warehouses w }
-    ensures { result ≡ warehouse_new d b.now names.now w }
+#[tactic(auto, unfolding(model::specs::Opening::warehouse_new), using(crate::proofs::Runs::warehouse_at_row))]
+fn warehouse_new(book: &Book, names: &[u8], w: u64) -> bool
+    requires { (length names.now ≡ name_bytes book.now.dims) × R book.now.dims.warehouses w }
+    ensures { result ≡ warehouse_new book.now.dims book.now.nums.now names.now w }
 {
-    let p = layout::warehouse_at(d, w);
-    if !new_warehouse(b, p) {
-        return false;
-    }
-    if !districts_new(b, names, d, w) {
-        return false;
-    }
-    new_stocks(b, d, w)
+    new_warehouse(book.nums, layout::warehouse_at(book.dims, w))
+        && districts_new(book, names, w)
+        && new_stocks(book, w)
 }
 
 // All warehouses.
-fn warehouses_new(b: &[i64], names: &[u8], d: Dims) -> bool
-    requires { Shaped d b.now (length names.now) }
-    ensures { result ≡ all_to d.warehouses (warehouse_new d b.now names.now) }
+fn warehouses_new(book: &Book, names: &[u8]) -> bool
+    requires { length names.now ≡ name_bytes book.now.dims }
+    ensures { result ≡ all_to book.now.dims.warehouses (warehouse_new book.now.dims book.now.nums.now names.now) }
 {
-    let mut i = 0;
-    while i < d.warehouses {
-        if !warehouse_new(b, names, d, i + 1) {
-            return false;
-        }
-        i += 1;
-    }
-    true
+    (0..book.dims.warehouses).all(|i| warehouse_new(book, names, i + 1))
 }
 
 // 3: the book is as opening wants it.
-fn book_new(b: &[i64], names: &[u8], d: Dims) -> bool
-    requires { Shaped d b.now (length names.now) }
-    ensures { result ≡ book_new d b.now names.now }
+#[tactic(auto, unfolding(model::specs::Opening::book_new))]
+fn book_new(book: &Book, names: &[u8]) -> bool
+    requires { length names.now ≡ name_bytes book.now.dims }
+    ensures { result ≡ book_new book.now.dims book.now.nums.now names.now }
 {
-    let count = rows::history_count(b, d);
-    if 0 < count {
-        return false;
-    }
-    if !warehouses_new(b, names, d) {
-        return false;
-    }
-    items_used(b, d)
+    rows::history_count(book.nums, book.dims) == 0
+        && warehouses_new(book, names)
+        && items_used(book)
 }
 
-// A book that is not accepted.
-fn turned_away(refusal: Refusal) -> OpeningAnswer
-    ensures { opening_says result.outcome ≡ refused refusal }
+// The first refusal that book and table decide.
+#[tactic(auto, unfolding(model::specs::Opening::opening_fault))]
+fn accepted(b: &[i64], names: &[u8], topup: &[i64]) -> Result<(), Refused>
+    ensures { told result ≡ opening_fault b.now names.now topup.now }
 {
-    let outcome = OpeningOutcome::Refused(refusal);
-    OpeningAnswer { outcome }
+    let dims = layout::head_of(b, names)?;
+    let book = Book { nums: b, dims };
+    if !book_new(&book, names) {
+        return Err(Refused::NotNew);
+    }
+    if !topup::table_ok(topup, dims) {
+        return Err(Refused::TopUp);
+    }
+    Ok(())
 }
 
 // Opening, which writes nothing.
 pub fn opening(b: &[i64], names: &[u8], topup: &[i64]) -> OpeningAnswer
     ensures { OpeningCall b.now names.now topup.now result }
 {
-    let Head::Book(d) = layout::head_of(b, names) else {
-        return turned_away(cells::refused(2));
-    };
-    if !book_new(b, names, d) {
-        return turned_away(cells::refused(3));
+    OpeningAnswer {
+        outcome: accepted(b, names, topup),
     }
-    if !topup::table_ok(topup, d) {
-        return turned_away(cells::refused(17));
-    }
-    let outcome = OpeningOutcome::Accepted;
-    OpeningAnswer { outcome }
 }

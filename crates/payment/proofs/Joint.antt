@@ -1,27 +1,27 @@
 -- What the code stores, having read everything before, is the model's list of changes done in turn; and the stages of a payment's tests.
 -- Assumes nothing.
-use mathlib.Core.Path.{◌≡◌, refl, sym, ap, ◌∙◌, subst}
-use mathlib.Core.Bool.{Bool, true, false, not, ◌&&◌}
-use mathlib.Core.List.{List, [], ◌∷◌, ◌++◌}
+use mathlib.Core.Path.{◌≡◌, refl, sym, ◌∙◌, subst}
+use mathlib.Core.Bool.{Bool, true, false, not}
+use mathlib.Core.List.{List, [], ◌++◌}
 use mathlib.Core.Logic.{◌≢◌}
 use Prim.Native.Nat.{ℕ, suc, ◌+◌, ◌≤◌}
 use native.Mathlib.Numerals.{add-one}
 use native.Mathlib.Omega.{arith}
-use borrow.Author.Tests.{eq-eqb, not-true, not-false}
-use lib.ListN.{length, drop, set, length-set}
+use borrow.Author.Tests.{eq-eqb, ne_eqb, not-false}
+use lib.ListN.{length, set, length-set}
 use lib.IntN.{ℤ, pos, ◌+ℤ◌, ◌-ℤ◌}
 use Rattle.model.specs.declared.Dims.{Dims}
 use Rattle.model.specs.declared.Payment.{Payment}
-use Rattle.model.specs.declared.Refusal.{Refusal}
+use Rattle.model.specs.Tests.{Refusal}
 use Rattle.model.specs.Tests.{bare, fault}
-use Rattle.model.specs.Head.{dims}
-use Rattle.model.specs.declared.PaymentAnswer.{PaymentAnswer}
-use Rattle.model.specs.Answer.{committed, refused, payment_says}
+use Rattle.std.specs.Prelude.{Result, Ok, Err}
+use Rattle.model.specs.declared.PaymentFigures.{PaymentFigures}
+use Rattle.model.specs.declared.Refused.{Refused}
+use Rattle.model.specs.Answer.{numbered}
 use Rattle.model.specs.Promises.{PaymentCall}
 use Rattle.model.specs.Layout.{at, shapes, place, numbers, total}
 use Rattle.model.specs.Store.{get, num}
 use Rattle.model.specs.Names.{Who}
-use Rattle.model.specs.Used.{warehouse_used, district_used}
 use Rattle.model.specs.Rows.{history_count, warehouse_ytd, district_ytd, balance, ytd_payment, payment_cnt, history_row}
 use Rattle.model.specs.Note.{note_place, text_at, note_bytes, notes_long, note_of, moved, replaced}
 use Rattle.model.specs.Payment.{pay_asked, pay_first, pay_used, payment_fault, payer, pay_ops, payment_commit, paid_balance, is_bad, note_commit, payment_answer, payment_book, payment_notes, history_numbers}
@@ -29,13 +29,12 @@ use Rattle.model.proofs.NumberLaws.{raised}
 use Rattle.model.proofs.Fields.{v7, row_end, head-place, place_col}
 use Rattle.model.proofs.Rewrite.{puts_row}
 use Rattle.model.proofs.InTurn.{in_turn}
-use Rattle.model.proofs.TestLaws.{and_left, and_right, turned_away, passed_on}
-use Rattle.model.proofs.AnswerLaws.{none-fits, committed-is, refused-is, changed_is, kept-is}
+use Rattle.model.proofs.TestLaws.{passed_on, fault_then, fault-first}
+use Rattle.model.proofs.AnswerLaws.{some-fits, nothing-fits}
 use Rattle.layout.specs.Heads.{Read}
 use Rattle.layout.proofs.Heads.{behind_head}
-use Rattle.model.proofs.PaymentFacts.{PayReady, notes-long, pay_ready, pay_fine}
-use Rattle.payment.specs.declared.Payer.{Payer}
-use Rattle.payment.specs.Plan.{payer_by, nobody, payer_in, Payable, plan_of, store_plan, Small}
+use Rattle.model.proofs.PaymentFacts.{PayAsked, PayReady, notes-long, pay_ready, pay_fine, pay_asked_lem, pay_asked_numbered}
+use Rattle.payment.specs.Plan.{Payable, plan_of, store_plan, Small}
 
 pub ready_payable : {d : Dims} {b : List ℤ} {names notes : List ℕ} {q : Payment} {who : Who} → PayReady d b names notes q who → Payable d b q (payer d names q who)
 ready_payable r =
@@ -98,82 +97,56 @@ module _ (d : Dims) (b : List ℤ) (q : Payment) (c : ℕ) (r : Payable d b q c)
 pub col : (d : Dims) (s x y z k : ℕ) → place (shapes d) (at s x y z 0) + k ≡ place (shapes d) (at s x y z k)
 col d s x y z k = place_col (shapes d) [] s x y z k
 
-module _ (b : List ℤ) (names : List ℕ) (q : Payment) (who : Who) where
-  -- ── the stages of tests, each where the one before finds nothing ──
-  pub used_none : (d : Dims) {t : Bool} → t ≡ (warehouse_used d b q.warehouse && district_used d b q.warehouse q.district) → not t ≡ true
-      → nobody 9 ≡ payer_by (fault (pay_used d b names q who)) (payer d names q who)
-  unfolding pay_used
-  used_none d {t} e s = go (warehouse_used d b q.warehouse) (district_used d b q.warehouse q.district) refl refl (sym e ∙ not-true t s)
-    where
-      go : (x y : Bool) → warehouse_used d b q.warehouse ≡ x → district_used d b q.warehouse q.district ≡ y → (warehouse_used d b q.warehouse && district_used d b q.warehouse q.district) ≡ false
-          → nobody 9 ≡ payer_by (fault (pay_used d b names q who)) (payer d names q who)
-      go false y f g h = rw f
-      go true false f g h = rw (f, g)
-      go true true f g h = absurd (let w : true ≡ false = rw (f, g) at h in let z : ◌≡◌ {A = ℕ} 0 1 = cc in omega arith)
+pub noted-long : (d : Dims) (notes : List ℕ) {t : Bool} → t ≡ notes_long d notes → not t ≡ false → length notes ≡ note_bytes d
+noted-long d notes {t} l s = notes-long d notes (sym l ∙ not-false t s)
 
-  pub used-rest : (d : Dims) {t : Bool} {p : Payer} → t ≡ (warehouse_used d b q.warehouse && district_used d b q.warehouse q.district) → not t ≡ false
-      → p ≡ payer_by (fault (drop 2 (pay_used d b names q who))) (payer d names q who) → p ≡ payer_by (fault (pay_used d b names q who)) (payer d names q who)
-  unfolding pay_used
-  used-rest d {t} e s g = let h = sym e ∙ not-false t s in rw (and_left (warehouse_used d b q.warehouse) (district_used d b q.warehouse q.district) h, and_right (warehouse_used d b q.warehouse) (district_used d b q.warehouse q.district) h) g
-
+-- ── a payment step by step ──
 module _ (b : List ℤ) (names notes : List ℕ) (q : Payment) (who : Who) where
-  -- ── a payment that is refused ──
-  pub turned_call : {r : Refusal} {a : PaymentAnswer} → r ≡ payment_fault b names notes q who → r.number ≢ 0 → payment_says a.outcome ≡ refused r
-      → PaymentCall b names notes q who a b notes
+  refused_call : (r : Refused) {o : Result PaymentFigures Refused} → o ≡ Err r → numbered r ≡ payment_fault b names notes q who → PaymentCall b names notes q who (record { outcome = o }) b notes
   unfolding payment_answer payment_book payment_notes
-  turned_call e n es =
-      let c = payer (dims b) names q who in
-      record {
-        says = es ∙ refused-is e (pos c ∷ paid_balance (dims b) b q c ∷ []) n;
-        leaves = kept-is e (payment_commit (dims b) b q c) b n;
-        writes = kept-is e (note_commit (dims b) b notes q c) notes n;
-      }
+  refused_call r e f =
+      let z : (payment_fault b names notes q who).number ≢ 0 = some-fits r f in
+      record { says = rw (e, ne_eqb _ _ z, f); leaves = rw (ne_eqb _ _ z); writes = rw (ne_eqb _ _ z) }
 
-  -- ── the stages behind the head ──
-  module _ {d : Dims} (v : Read b (length names) d) {t : Bool} (l : t ≡ notes_long d notes) where
-    -- by 14
-    pub unlike_long : {r : Refusal} → not t ≡ true → r ≡ bare 14 → r ≡ payment_fault b names notes q who
+  -- behind 2 and 14
+  module _ {d : Dims} (v : Read b (length names) d) {t : Bool} (l : t ≡ notes_long d notes) (s : not t ≡ false) where
+    behind : {r : Refusal} → r ≡ fault (pay_asked d q who ++ pay_used d b names q who) → r ≡ payment_fault b names notes q who
     unfolding payment_fault
-    unlike_long s e =
+    behind e =
         behind_head b (length names) (λ x. pay_first x notes q who) (λ x. pay_used x b names q who) v
-        (turned_away 14 (fault (pay_asked d q who ++ pay_used d b names q who)) l s e)
+        (passed_on 14 (fault (pay_asked d q who ++ pay_used d b names q who)) l s e)
 
-    -- what the refusal and the payer say of the call
-    module _ (s : not t ≡ false) {p : Payer} (e : p ≡ payer_in d b names q who) where
-      pub refusal_is : p.refusal ≡ payment_fault b names notes q who
-      unfolding payment_fault
-      refusal_is =
-          behind_head b (length names) (λ x. pay_first x notes q who) (λ x. pay_used x b names q who) v
-          (passed_on 14 (fault (pay_asked d q who ++ pay_used d b names q who)) l s (ap (λ (x : Payer). x.refusal) e))
+    pub refused_asked : (r : Refused) {o : Result PaymentFigures Refused} → o ≡ Err r → numbered r ≡ fault (pay_asked d q who) → PaymentCall b names notes q who (record { outcome = o }) b notes
+    refused_asked r e f = refused_call r e (behind (f ∙ sym (fault-first (pay_asked d q who) (pay_used d b names q who) (some-fits r f))))
 
-      who_pays : p.refusal.number ≡ 0 → p.customer ≡ payer d names q who
-      who_pays z =
-          let f = fault (pay_asked d q who ++ pay_used d b names q who) in
-          ap (λ (x : Payer). x.customer) e ∙ rw (eq-eqb f.number 0 (sym (ap (λ (x : Payer). x.refusal.number) e) ∙ z))
+    module _ (a : bare 0 ≡ fault (pay_asked d q who)) where
+      pub asked_in : PayAsked d q who
+      asked_in = pay_asked_lem d q who (nothing-fits a)
 
-      pub pays : p.refusal.number ≡ 0 → Payable d b q p.customer
-      pays z =
-          subst (λ (x : Dims). Payable x b q p.customer) (sym v.same)
-          (rw (who_pays z, v.same) (ready_payable (pay_ready b names notes q who (none-fits refusal_is z))))
+      used_first : fault (pay_used d b names q who) ≡ payment_fault b names notes q who
+      used_first = behind (sym (fault_then (pay_asked d q who) (pay_used d b names q who) (nothing-fits a) (pay_asked_numbered d q who)))
 
-      pub noted-long : length notes ≡ note_bytes d
-      noted-long = notes-long d notes (sym l ∙ not-false t s)
+      pub refused_used : (r : Refused) {o : Result PaymentFigures Refused} → o ≡ Err r → numbered r ≡ fault (pay_used d b names q who) → PaymentCall b names notes q who (record { outcome = o }) b notes
+      refused_used r e f = refused_call r e (f ∙ used_first)
 
-      -- what is computed of the size read and of the payer, of those of the book
-      by_book : {A : Type 0} (f : Dims → ℕ → A) → p.refusal.number ≡ 0 → f d p.customer ≡ f (dims b) (payer (dims b) names q who)
-      by_book f z = ap (f d) (who_pays z) ∙ ap (λ (x : Dims). f x (payer x names q who)) v.same
+      module _ (u : bare 0 ≡ fault (pay_used d b names q who)) {c : ℕ} (c-is : c ≡ payer d names q who) where
+        none : (payment_fault b names notes q who).number ≡ 0
+        none = nothing-fits (u ∙ used_first)
 
-      pub paid-call : {a : PaymentAnswer} {left : List ℤ} {written : List ℕ} → p.refusal.number ≡ 0
-          → payment_says a.outcome ≡ committed (pos p.customer ∷ paid_balance d b q p.customer ∷ []) → left ≡ payment_commit d b q p.customer
-          → written ≡ note_commit d b notes q p.customer → PaymentCall b names notes q who a left written
-      unfolding payment_answer payment_book payment_notes
-      paid-call z es el ew =
-          let c = payer (dims b) names q who in
-          record {
-            says = es ∙ by_book (λ x i. committed (pos i ∷ paid_balance x b q i ∷ [])) z ∙ committed-is refusal_is (pos c ∷ paid_balance (dims b) b q c ∷ []) z;
-            leaves = el ∙ by_book (λ x i. payment_commit x b q i) z ∙ changed_is refusal_is (payment_commit (dims b) b q c) b z;
-            writes = ew ∙ by_book (λ x i. note_commit x b notes q i) z ∙ changed_is refusal_is (note_commit (dims b) b notes q c) notes z;
-          }
+        pub pays : Payable d b q c
+        pays =
+            subst (λ (x : Dims). Payable x b q c) (sym v.same)
+            (rw (c-is, v.same) (ready_payable (pay_ready b names notes q who none)))
+
+        pub paid : {o : Result PaymentFigures Refused} {z : ℤ} {left : List ℤ} {written : List ℕ} → o ≡ Ok (record { customer = c; balance = z }) → z ≡ paid_balance d b q c
+            → left ≡ payment_commit d b q c → written ≡ note_commit d b notes q c → PaymentCall b names notes q who (record { outcome = o }) left written
+        unfolding payment_answer payment_book payment_notes
+        paid eo ez el ew =
+            record {
+              says = rw (eo, ez, c-is, v.same, eq-eqb _ _ none);
+              leaves = el ∙ rw (c-is, v.same, eq-eqb _ _ none);
+              writes = ew ∙ rw (c-is, v.same, eq-eqb _ _ none);
+            }
 
 -- ── the note, by the credit that was read ──
 module _ (d : Dims) (b : List ℤ) (notes : List ℕ) (q : Payment) (c : ℕ) {t : Bool} (e : t ≡ is_bad d b q.custwarehouse q.custdistrict c) where

@@ -1,36 +1,17 @@
 -- What the code does between reading and answering. No rule of the book is here: the positions and the numbers are the model's.
 -- Assumes nothing.
-use Rattle.std.specs.Prelude.{◌≡◌, List, ◌++◌, ℕ, ◌+◌, ◌≤◌, ◌<◌, ◌^◌, length, drop, set, ℤ, pos, ◌-ℤ◌}
+use Rattle.std.specs.Prelude.{◌≡◌, List, ℕ, ◌+◌, ◌≤◌, ◌<◌, ◌^◌, length, set, ℤ, pos, ◌-ℤ◌}
 use Rattle.model.specs.declared.Dims.{Dims}
 use Rattle.model.specs.declared.Payment.{Payment}
-use Rattle.model.specs.declared.Refusal.{Refusal}
 use Rattle.model.specs.Layout.{shapes, place, numbers}
 use Rattle.model.specs.Store.{get, num}
 use Rattle.model.specs.Rows.{history_count, warehouse_ytd, district_ytd, balance, ytd_payment, payment_cnt, history_row}
-use Rattle.model.specs.Tests.{bare, fault}
-use Rattle.model.specs.Names.{Who}
-use Rattle.model.specs.Payment.{pay_asked, pay_used, payer, history_numbers, payment_commit, paid_balance, is_bad, note_commit}
-use Rattle.model.specs.Answer.{left_by}
+use Rattle.model.specs.Payment.{history_numbers, payment_commit, paid_balance, is_bad, note_commit}
 use Rattle.model.specs.Claim.{R}
 use Rattle.model.proofs.Fields.{Dimensioned}
 use Rattle.model.proofs.RowFacts.{WarehouseIn, DistrictIn, CustomerIn}
 use Rattle.model.proofs.Rewrite.{puts}
-use Rattle.payment.specs.declared.Payer.{Payer}
 use Rattle.payment.specs.declared.Plan.{Plan}
-
--- the refusal, and who pays where there is none
-abbrev pub payer_by : Refusal → ℕ → Payer
-payer_by f c = record { refusal = f; customer = left_by f c 0 }
-
-abbrev pub nobody : ℕ → Payer
-nobody n = record { refusal = bare n; customer = 0 }
-
--- what the rows and names decide from test n on, and what the request decides before
-abbrev pub payer_from : ℕ → Dims → List ℤ → List ℕ → Payment → Who → Payer
-payer_from n d b names q who = payer_by (fault (drop n (pay_used d b names q who))) (payer d names q who)
-
-abbrev pub payer_in : Dims → List ℤ → List ℕ → Payment → Who → Payer
-payer_in d b names q who = payer_by (fault (pay_asked d q who ++ pay_used d b names q who)) (payer d names q who)
 
 -- a payment by customer c that no refusal applies to
 pub record Payable (d : Dims) (b : List ℤ) (q : Payment) (c : ℕ) : Type 0 where

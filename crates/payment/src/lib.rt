@@ -1,31 +1,19 @@
 #![tactic(auto)]
 
-ghost use Rattle.std.specs.Prelude.{◌≡◌, ◌&&◌, ◌+◌, ◌≤◌, length, drop};
+ghost use Rattle.std.specs.Prelude.{◌≡◌, ◌+◌, ◌≤◌, length, IfOk};
 ghost use Rattle.model.specs.Tests.{fault};
-ghost use Rattle.model.specs.Used.{warehouse_used, district_used};
-ghost use Rattle.model.specs.Claim.{R};
-ghost use Rattle.model.specs.Names.{by_number, by_name, who_of};
-ghost use Rattle.model.specs.Answer.{refused, payment_says};
+ghost use Rattle.model.specs.Names.{who_of};
+ghost use Rattle.model.specs.Answer.{told};
 ghost use Rattle.model.specs.Promises.{PaymentCall};
 ghost use Rattle.model.specs.Note.{note_bytes};
 ghost use Rattle.model.specs.Payment.{pay_asked, pay_used, payer, history_numbers};
-ghost use Rattle.model.proofs.Fields.{Shaped};
+ghost use Rattle.model.specs.Layout.{name_bytes};
 ghost use Rattle.model.proofs.PaymentFacts.{PayAsked};
 ghost use Rattle.model.proofs.Rewrite.{puts};
-ghost use Rattle.rows.specs.Book.{Booked};
-ghost use Rattle.payment.specs.Plan.{payer_by, nobody, payer_from, payer_in, Payable, plan_of, Storable, Small, store_plan, Settled};
+ghost use Rattle.payment.specs.Plan.{Payable, plan_of, Storable, Small, store_plan, Settled};
 
-use layout::Head;
-use model::{
-    Dims, Found, Payment, PaymentAnswer, PaymentFigures, PaymentOutcome, Refusal, Selection,
-};
-
-// The refusal of a payment, and who pays where there is none.
-#[derive(Clone, Copy)]
-pub struct Payer {
-    pub refusal: Refusal,
-    pub customer: u64,
-}
+use model::{Dims, Payment, PaymentAnswer, PaymentFigures, Refused, Selection};
+use rows::Book;
 
 // The numbers that a payment changes: where they stand, and what they become; and whether the customer's credit is bad.
 #[derive(Clone, Copy)]
@@ -46,119 +34,54 @@ pub struct Plan {
 }
 
 // The first refusal that the request alone decides.
-fn asked(d: Dims, q: Payment, who: Selection, name: &[u8]) -> Refusal
-    ensures { result ≡ fault (pay_asked d q (who_of who name.now)) }
+#[tactic(auto, unfolding(model::specs::Payment::pay_asked))]
+fn asked(d: Dims, q: Payment, who: Selection) -> Result<(), Refused>
+    ensures { told result ≡ fault (pay_asked d q (who_of who.entry)) }
 {
     let custwarehouse = cells::within(q.custwarehouse, 1, d.warehouses);
     if !(cells::within(q.warehouse, 1, d.warehouses) & custwarehouse) {
-        return cells::refused(4);
+        return Err(Refused::Warehouse);
     }
     let custdistrict = cells::within(q.custdistrict, 1, 10);
     if !(cells::within(q.district, 1, 10) & custdistrict) {
-        return cells::refused(5);
+        return Err(Refused::District);
     }
-    if !lookup::who_ok(d, who, name) {
-        return cells::refused(6);
+    if !lookup::who_ok(d, who) {
+        return Err(Refused::Customer);
     }
     if !cells::within(q.date, 1, 6342969600) {
-        return cells::refused(7);
+        return Err(Refused::Date);
     }
     if !cells::within(q.amount, 100, 500000) {
-        return cells::refused(8);
+        return Err(Refused::Range(0));
     }
-    cells::refused(0)
+    Ok(())
 }
 
-// Nobody pays.
-fn nobody_pays(number: u64) -> Payer
-    ensures { result ≡ nobody number }
+// The first refusal that the rows and names decide, else who pays.
+#[tactic(auto, unfolding(model::specs::Payment::pay_used, model::specs::Payment::payer), using(rows::proofs::RowTests::booked_six))]
+fn used(book: &Book, names: &[u8], q: Payment, who: Selection) -> Result<u64, Refused>
+    requires { (length names.now ≡ name_bytes book.now.dims) × PayAsked book.now.dims q (who_of who) }
+    ensures { (told result ≡ fault (pay_used book.now.dims book.now.nums.now names.now q (who_of who.entry)))
+        × IfOk result (λ c. c ≡ payer book.now.dims names.now q (who_of who.entry)) }
 {
-    let refusal = cells::refused(number);
-    Payer {
-        refusal,
-        customer: 0,
+    if !rows::warehouse_used(book, q.warehouse) {
+        return Err(Refused::Row);
     }
-}
-
-// Customer c pays where the history has room for one row more. Names stand in the contract alone, as in by_number.
-fn with_room(b: &[i64], names: &[u8], d: Dims, q: Payment, c: u64) -> Payer
-    requires { Shaped d b.now (length names.now) }
-    ensures { result ≡ payer_by (fault (drop 4 (pay_used d b.now names.now q (by_number c)))) c }
-{
-    let row = rows::history_count(b, d) + 1;
-    if d.histories < row {
-        return nobody_pays(11);
+    if !rows::district_used(book, q.warehouse, q.district) {
+        return Err(Refused::Row);
     }
-    let refusal = cells::refused(0);
-    Payer {
-        refusal,
-        customer: c,
+    if !lookup::who_used(book, names, q.custwarehouse, q.custdistrict, who) {
+        return Err(Refused::Row);
     }
-}
-
-// What is decided after warehouse and district, of a customer given by number.
-fn by_number(b: &[i64], names: &[u8], d: Dims, q: Payment, c: u64) -> Payer
-    requires { Shaped d b.now (length names.now) × PayAsked d q (by_number c) }
-    ensures { result ≡ payer_from 2 d b.now names.now q (by_number c) }
-{
-    if !rows::customer_used(b, d, q.custwarehouse, q.custdistrict, c) {
-        return nobody_pays(9);
-    }
-    with_room(b, names, d, q, c)
-}
-
-// The same of a customer given by last name.
-fn by_name(b: &[i64], names: &[u8], d: Dims, q: Payment, name: &[u8]) -> Payer
-    requires { Shaped d b.now (length names.now) × PayAsked d q (by_name name.now) }
-    ensures { result ≡ payer_from 2 d b.now names.now q (by_name name.now) }
-{
-    if !lookup::named_used(b, names, d, q.custwarehouse, q.custdistrict) {
-        return nobody_pays(9);
-    }
-    let found = lookup::find(names, d, q.custwarehouse, q.custdistrict, name);
-    let Found::Customer(c) = found else {
-        return nobody_pays(10);
+    let found = lookup::customer_of(names, book.dims, q.custwarehouse, q.custdistrict, who);
+    let Some(customer) = found else {
+        return Err(Refused::Nobody);
     };
-    with_room(b, names, d, q, c)
-}
-
-// 9: the rows of the terminal's warehouse and district are in range.
-fn terminal_used(b: &[i64], d: Dims, q: Payment) -> bool
-    requires { Booked d b.now × (R d.warehouses q.warehouse × R 10 q.district) }
-    ensures { result ≡ (warehouse_used d b.now q.warehouse && district_used d b.now q.warehouse q.district) }
-{
-    let warehouse = rows::warehouse_used(b, d, q.warehouse);
-    let district = rows::district_used(b, d, q.warehouse, q.district);
-    warehouse & district
-}
-
-// The first refusal that the rows and names decide, and who pays.
-fn used(b: &[i64], names: &[u8], d: Dims, q: Payment, who: Selection, name: &[u8]) -> Payer
-    requires { Shaped d b.now (length names.now) × PayAsked d q (who_of who name.now) }
-    ensures { result ≡ payer_from 0 d b.now names.now q (who_of who name.now) }
-{
-    if !terminal_used(b, d, q) {
-        return nobody_pays(9);
+    if book.dims.histories <= rows::history_count(book.nums, book.dims) {
+        return Err(Refused::Full);
     }
-    match who {
-        Selection::Number(c) => by_number(b, names, d, q, c),
-        Selection::LastName => by_name(b, names, d, q, name),
-    }
-}
-
-// The first refusal of what request, rows and names decide, and who pays where there is none.
-fn payer_in(b: &[i64], names: &[u8], d: Dims, q: Payment, who: Selection, name: &[u8]) -> Payer
-    requires { Shaped d b.now (length names.now) }
-    ensures { result ≡ payer_in d b.now names.now q (who_of who name.now) }
-{
-    let refusal = asked(d, q, who, name);
-    if refusal.number == 0 {
-        return used(b, names, d, q, who, name);
-    }
-    Payer {
-        refusal,
-        customer: 0,
-    }
+    Ok(customer)
 }
 
 // The numbers that a payment changes, read before any is written.
@@ -239,12 +162,27 @@ fn commit(b: &mut [i64], notes: &mut [u8], d: Dims, q: Payment, c: u64) -> i64
     p.newbalance
 }
 
-// A payment that is refused.
-fn turned_away(refusal: Refusal) -> PaymentAnswer
-    ensures { payment_says result.outcome ≡ refused refusal }
+// A payment, carried out or refused.
+#[tactic(auto, unfolding(model::specs::Payment::payment_fault, model::specs::Payment::payment_answer, model::specs::Payment::payment_book, model::specs::Payment::payment_notes))]
+fn pay(
+    b: &mut [i64],
+    names: &[u8],
+    notes: &mut [u8],
+    q: Payment,
+    who: Selection,
+) -> Result<PaymentFigures, Refused>
+    ensures { PaymentCall b.old names.now notes.old q (who_of who.entry)
+        (record { outcome = result }) b.new notes.new }
 {
-    let outcome = PaymentOutcome::Refused(refusal);
-    PaymentAnswer { outcome }
+    let d = layout::head_of(b, names)?;
+    if !notes::long_ok(notes, d) {
+        return Err(Refused::Notes);
+    }
+    asked(d, q, who)?;
+    let book = Book { nums: b, dims: d };
+    let customer = used(&book, names, q, who)?;
+    let balance = commit(b, notes, d, q, customer);
+    Ok(PaymentFigures { customer, balance })
 }
 
 // Payment, by customer number or by last name; notes has the customers' texts.
@@ -254,26 +192,10 @@ pub fn payment(
     notes: &mut [u8],
     q: Payment,
     who: Selection,
-    name: &[u8],
 ) -> PaymentAnswer
-    ensures { PaymentCall b.old names.now notes.old q (who_of who name.now)
+    ensures { PaymentCall b.old names.now notes.old q (who_of who.entry)
         result b.new notes.new }
 {
-    let Head::Book(d) = layout::head_of(b, names) else {
-        return turned_away(cells::refused(2));
-    };
-    if !notes::long_ok(notes, d) {
-        return turned_away(cells::refused(14));
-    }
-    let payer = payer_in(b, names, d, q, who, name);
-    let refusal = payer.refusal;
-    if refusal.number == 0 {
-        let balance = commit(b, notes, d, q, payer.customer);
-        let outcome = PaymentOutcome::Committed(PaymentFigures {
-            customer: payer.customer,
-            balance,
-        });
-        return PaymentAnswer { outcome };
-    }
-    turned_away(refusal)
+    let outcome = pay(b, names, notes, q, who);
+    PaymentAnswer { outcome }
 }

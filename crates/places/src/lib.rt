@@ -20,6 +20,7 @@ pub struct Spot {
 }
 
 // Each is 1 to its size.
+#[tactic(auto, unfolding(crate::specs::Places::spot_tests))]
 fn spot_ok(d: Dims, s: Spot) -> bool
     ensures { result ≡ every (spot_tests d s) }
 {
@@ -52,7 +53,7 @@ fn placed(d: Dims, s: Spot) -> [u64; 12]
 }
 
 // Number, detail, how many numbers and name bytes the book has, then where the rows of a warehouse, a district, a customer, an item, a stock,
-// an order slot and a history slot start, and where the customer's names do.
+// an order slot and a history slot start, and where the customer's names do. Flat, as C takes it.
 pub fn places(d: Dims, s: Spot) -> [u64; 12]
     ensures { result ≡ places_out d s }
 {

@@ -2,17 +2,19 @@
 -- Assumes nothing.
 use mathlib.Core.Path.{◌≡◌, refl, sym, ap, ◌∙◌}
 use mathlib.Core.Bool.{true, false}
-use mathlib.Core.List.{List, [], ◌∷◌, ◌++◌, append_assoc}
+use mathlib.Core.List.{List, [], ◌∷◌, ◌++◌}
 use Prim.Native.Nat.{ℕ, suc, ◌+◌, ◌-◌, ◌≤◌, ◌<◌}
 use native.Mathlib.Omega.{arith}
 use lib.Dec.{leb, ltb}
 use lib.IntN.{ℤ}
 use lib.ListN.{length, get_or, set, take, drop, length-drop}
-use lib.Seq.{length-take-le, take-suc, drop-cons, set-append_seam, get_or-drop}
+use lib.Seq.{length-take-le, drop-cons, set-append_seam}
+use borrow.Rule.Slice.PartMut.{put_mid}
 use Rattle.model.specs.declared.DeliveryAnswer.{DeliveryAnswer}
 use Rattle.model.specs.declared.Queue.{Queue}
 use Rattle.model.specs.declared.QueueAnswer.{QueueAnswer}
-use Rattle.model.specs.declared.QueueOutcome.TheVariants as QueueCase
+use Rattle.model.specs.declared.Refused.{Refused}
+use Rattle.std.proofs.Common.{Ok}
 use Rattle.model.specs.declared.Waiting.{Waiting}
 use Rattle.model.specs.Tests.{within}
 use Rattle.model.specs.Numbers.{max_date}
@@ -27,16 +29,16 @@ use Rattle.queue.specs.Steps.{not_queued, NotRun}
 
 -- ── the call that queues ──
 module _ (q : Queue) (x : Waiting) where
-  pub full : ltb q.count 16 ≡ false → QueueCall q x (not_queued q 15).answer q
+  pub full : ltb q.count 16 ≡ false → QueueCall q x (not_queued q Refused.QueueFull).answer q
   unfolding queue_fault queue_answer queue_after
   full e = record { says = rw e; keeps = rw e }
 
-  pub misdated : ltb q.count 16 ≡ true → within x.date 1 max_date ≡ false → QueueCall q x (not_queued q 7).answer q
+  pub misdated : ltb q.count 16 ≡ true → within x.date 1 max_date ≡ false → QueueCall q x (not_queued q Refused.Date).answer q
   unfolding queue_fault queue_answer queue_after
   misdated e d = record { says = rw (e, d); keeps = rw (e, d) }
 
   abbrev behind : QueueAnswer
-  behind = record { outcome = QueueCase.Committed (record { before = q.count }) }
+  behind = record { outcome = Ok (record { before = q.count }) }
 
   pub joins : ltb q.count 16 ≡ true → within x.date 1 max_date ≡ true
       → QueueCall q x behind (record { count = q.count + 1; waiting = set q.waiting q.count x })
@@ -77,28 +79,14 @@ put_at k us ws x h l =
     ∙ ap (λ (i : ℕ). set (take k us ++ (get_or ws k free ∷ drop (suc k) ws)) i x) (sym (length-take-le k us h))
     ∙ set-append_seam (take k us) (get_or ws k free) (drop (suc k) ws) x
 
--- those in front of place i have moved
-abbrev pub moved_to : List Waiting → ℕ → List Waiting
-moved_to ws i = take (i - 1) (drop 1 ws) ++ drop (i - 1) ws
-
-module _ (ws : List Waiting) (i : ℕ) (lo : 1 ≤ i) where
-  pub move_step : i < length ws → set (moved_to ws i) (i - 1) (get_or ws i free) ≡ moved_to ws (i + 1)
-  move_step h =
-      let n : i + 1 - 1 ≡ suc (i - 1) = omega arith in
-      let m : 1 + (i - 1) ≡ i = omega arith in
-      let l : i - 1 < length (drop 1 ws) = omega (arith, length-drop 1 ws) in
-      let next : take (suc (i - 1)) (drop 1 ws) ≡ take (i - 1) (drop 1 ws) ++ (get_or ws i free ∷ []) =
-      take-suc (drop 1 ws) (i - 1) free l ∙ ap (λ (x : Waiting). take (i - 1) (drop 1 ws) ++ (x ∷ [])) (get_or-drop 1 ws (i - 1) free ∙ ap (λ (j : ℕ). get_or ws j free) m) in
-      put_at (i - 1) (drop 1 ws) ws (get_or ws i free) (omega arith) (omega arith)
-      ∙ sym (append_assoc (take (i - 1) (drop 1 ws)) (get_or ws i free ∷ []) (drop (suc (i - 1)) ws))
-      ∙ ap (λ (vs : List Waiting). vs ++ drop (suc (i - 1)) ws) (sym next)
-      ∙ ap (λ (j : ℕ). take j (drop 1 ws) ++ drop j ws) (sym n)
-
-  pub move-last : i ≤ length ws → set (moved_to ws i) (i - 1) free ≡ take (i - 1) (drop 1 ws) ++ (free ∷ drop i ws)
-  move-last h =
-      let m : suc (i - 1) ≡ i = omega arith in
-      put_at (i - 1) (drop 1 ws) ws free (omega (arith, length-drop 1 ws)) (omega arith)
-      ∙ ap (λ (j : ℕ). take (i - 1) (drop 1 ws) ++ (free ∷ drop j ws)) m
+-- their places written anew, and the last of them free
+pub moved : (ws ys : List Waiting) (n : ℕ) → 1 ≤ n → n ≤ length ws → ys ≡ take (n - 1) (drop 1 ws)
+    → set (put_mid 0 (n - 1) ws ys) (n - 1) free ≡ take (n - 1) (drop 1 ws) ++ (free ∷ drop n ws)
+moved ws ys n lo hi e =
+    let m : suc (n - 1) ≡ n = omega arith in
+    ap (λ (zs : List Waiting). set (zs ++ drop (n - 1) ws) (n - 1) free) e
+    ∙ put_at (n - 1) (drop 1 ws) ws free (omega (arith, length-drop 1 ws)) (omega arith)
+    ∙ ap (λ (j : ℕ). take (n - 1) (drop 1 ws) ++ (free ∷ drop j ws)) m
 
 -- ── the result line ──
 -- a line of a first field, the others and byte 10

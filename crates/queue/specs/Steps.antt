@@ -1,8 +1,8 @@
 -- What the steps hand on.
 -- Assumes nothing.
-use Rattle.std.specs.Prelude.{◌≡◌, List, ◌∷◌, ℕ, ℤ, pos, replicate}
+use Rattle.std.specs.Prelude.{◌≡◌, List, ◌∷◌, ℕ, ℤ, pos, replicate, Err}
 use Rattle.model.specs.declared.Queue.{Queue}
-use Rattle.model.specs.declared.QueueOutcome.TheVariants as QueueCase
+use Rattle.model.specs.declared.Refused.{Refused}
 use Rattle.model.specs.Tests.{bare}
 use Rattle.model.specs.Text.{positives}
 use Rattle.model.specs.Answer.{refused, delivery_says}
@@ -10,8 +10,8 @@ use Rattle.queue.specs.declared.Joined.{Joined}
 use Rattle.queue.specs.declared.Ran.{Ran}
 
 -- a queuing call that is refused
-abbrev pub not_queued : Queue → ℕ → Joined
-not_queued q number = record { queue = q; answer = record { outcome = QueueCase.Refused (bare number) } }
+abbrev pub not_queued : Queue → Refused → Joined
+not_queued q r = record { queue = q; answer = record { outcome = Err r } }
 
 -- a run that is refused by 16
 pub record NotRun (q : Queue) (r : Ran) : Type 0 where

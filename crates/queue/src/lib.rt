@@ -11,8 +11,7 @@ ghost use Rattle.text.specs.Writing.{Wrote};
 ghost use Rattle.queue.specs.Steps.{not_queued, NotRun, served};
 
 use model::{
-    Delivery, DeliveryAnswer, DeliveryOutcome, Queue, QueueAnswer, QueueFigures, QueueOutcome,
-    Waiting,
+    Delivery, DeliveryAnswer, DeliveryFigures, Queue, QueueAnswer, QueueFigures, Refused, Waiting,
 };
 
 // The waiting list after a queuing call, and what it answers.
@@ -30,11 +29,12 @@ pub struct Ran {
 }
 
 // A queuing call that is refused.
-fn not_queued(q: Queue, number: u64) -> Joined
-    ensures { result ≡ not_queued q number }
+fn not_queued(q: Queue, refusal: Refused) -> Joined
+    ensures { result ≡ not_queued q refusal }
 {
-    let outcome = QueueOutcome::Refused(cells::refused(number));
-    let answer = QueueAnswer { outcome };
+    let answer = QueueAnswer {
+        outcome: Err(refusal),
+    };
     Joined { queue: q, answer }
 }
 
@@ -44,17 +44,17 @@ pub fn join_last(q: Queue, x: Waiting) -> Joined
 {
     let n = q.count;
     if 16 <= n {
-        return not_queued(q, 15);
+        return not_queued(q, Refused::QueueFull);
     }
     if !cells::within(x.date, 1, 6342969600) {
-        return not_queued(q, 7);
+        return not_queued(q, Refused::Date);
     }
-    let at = n as usize;
     let mut queue = q;
-    queue.waiting[at] = x;
+    queue.waiting[n as usize] = x;
     queue.count = n + 1;
-    let outcome = QueueOutcome::Committed(QueueFigures { before: n });
-    let answer = QueueAnswer { outcome };
+    let answer = QueueAnswer {
+        outcome: Ok(QueueFigures { before: n }),
+    };
     Joined { queue, answer }
 }
 
@@ -64,21 +64,17 @@ fn moved_up(q: Queue) -> Queue
     ensures { result ≡ moved_up q }
 {
     let n = q.count as usize;
-    let mut queue = q;
-    let mut i = 1;
-    while i < n {
-        let x = q.waiting[i];
-        queue.waiting[i - 1] = x;
-        i += 1;
-    }
-    let free = Waiting {
+    let mut waiting = q.waiting;
+    waiting[..n - 1].copy_from_slice(&q.waiting[1..n]);
+    waiting[n - 1] = Waiting {
         date: 0,
         warehouse: 0,
         carrier: 0,
     };
-    queue.waiting[n - 1] = free;
-    queue.count = q.count - 1;
-    queue
+    Queue {
+        count: q.count - 1,
+        waiting,
+    }
 }
 
 // A skip count and ten order numbers, each after a tab.
@@ -87,17 +83,22 @@ fn put_served(buffer: &mut [u8], at: usize, skipped: u64, orders: [u64; 10]) -> 
     ensures { Wrote buffer.old buffer.new at result (tabbed (signeds (served skipped orders))) × (result ≤ at + 231) }
 {
     let p = text::put_number(buffer, at, skipped);
-    text::put_ten(buffer, p, orders)
+    text::put_numbers(buffer, p, &orders)
 }
 
 // How a run ended, each number after a tab.
-fn put_end(buffer: &mut [u8], at: usize, o: DeliveryOutcome, orders: [u64; 10]) -> usize
+fn put_end(
+    buffer: &mut [u8],
+    at: usize,
+    o: Result<DeliveryFigures, Refused>,
+    orders: [u64; 10],
+) -> usize
     requires { at + 231 ≤ length buffer.old }
     ensures { Wrote buffer.old buffer.new at result (tabbed (signeds (ended (delivery_says o) orders))) × (result ≤ at + 231) }
 {
     match o {
-        DeliveryOutcome::Committed(f) => put_served(buffer, at, f.skipped, orders),
-        DeliveryOutcome::Refused(r) => text::put_number(buffer, at, r.number),
+        Ok(f) => put_served(buffer, at, f.skipped, orders),
+        Err(r) => text::put_number(buffer, at, r.number()),
     }
 }
 
@@ -107,18 +108,16 @@ fn write_result(buffer: &mut [u8], x: Waiting, date: u64, a: DeliveryAnswer)
     ensures { buffer.new ≡ on_front (result_line x date (delivery_says a.outcome) a.orders) buffer.old }
 {
     let first = text::put_digits(buffer, 0, x.date);
-    let p = text::put_three(buffer, first, x.warehouse, x.carrier, date);
-    let o = a.outcome;
-    let orders = a.orders;
-    let end = put_end(buffer, p, o, orders);
-    buffer[end] = 10;
+    let p = text::put_numbers(buffer, first, &[x.warehouse, x.carrier, date]);
+    let end = put_end(buffer, p, a.outcome, a.orders);
+    buffer[end] = b'\n';
 }
 
 // A run that is refused by 16.
 fn not_run(q: Queue) -> Ran
     ensures { NotRun q result }
 {
-    let answer = delivery::turned_away(cells::refused(16));
+    let answer = delivery::turned_away(Refused::NotRun);
     Ran { queue: q, answer }
 }
 
@@ -126,10 +125,7 @@ fn not_run(q: Queue) -> Ran
 pub fn run_first(b: &mut [i64], names: &[u8], q: Queue, date: u64, buffer: &mut [u8]) -> Ran
     ensures { RunCall b.old names.now q date buffer.old result.answer b.new result.queue buffer.new }
 {
-    if !cells::within(q.count, 1, 16) {
-        return not_run(q);
-    }
-    if buffer.len() < 400 {
+    if !cells::within(q.count, 1, 16) || buffer.len() < 400 {
         return not_run(q);
     }
     let x = q.waiting[0];

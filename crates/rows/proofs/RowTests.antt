@@ -1,14 +1,13 @@
 -- What a test of a row, made from the row's start, says of the row at its address; and a number read by the code.
 -- Assumes nothing.
 use mathlib.Core.Path.{◌≡◌, sym, ap, ◌∙◌, subst}
-use mathlib.Core.Bool.{Bool, true, false, not, ◌&&◌}
+use mathlib.Core.Bool.{Bool, true, false}
 use mathlib.Core.List.{List}
-use Prim.Native.Nat.{ℕ, ◌+◌, ◌*◌, ◌≤◌, ◌<◌}
+use Prim.Native.Nat.{ℕ, ◌+◌, ◌*◌, ◌≤◌}
 use native.Mathlib.Omega.{arith}
-use lib.Dec.{leb}
 use lib.IntN.{ℤ, pos}
 use lib.ListN.{length, get_or}
-use borrow.Author.Tests.{leb-true, lt-leb, le-leb, not-true, not-false}
+use borrow.Author.Tests.{leb-true}
 use Rattle.model.specs.declared.Dims.{Dims}
 use Rattle.model.specs.Tests.{every}
 use Rattle.model.specs.Numbers.{nat, cell}
@@ -24,6 +23,11 @@ use Rattle.rows.specs.Book.{Booked, lines_ok}
 pub shaped-booked : {d : Dims} {b : List ℤ} {n : ℕ} → Shaped d b n → Booked d b
 shaped-booked s = record { dimsd = s.dimsd; long = s.long }
 
+-- it has a head
+pub booked_six : {d : Dims} {b : List ℤ} → Booked d b → 6 ≤ length b
+unfolding numbers
+booked_six h = let e = h.long in omega arith
+
 pub booked-long : {d : Dims} {b : List ℤ} → Booked d b → length b ≡ total (shapes d)
 unfolding numbers
 booked-long s = s.long
@@ -31,20 +35,6 @@ booked-long s = s.long
 -- the book whose head a call has found in range, by the dimensions that it has read
 pub head-booked : (b : List ℤ) (n : ℕ) {d : Dims} → head_ok b n ≡ true → d ≡ dims b → Booked d b
 head-booked b n h e = subst (λ (x : Dims). Booked x b) (sym e) (shaped-booked (head-shaped b n h))
-
--- ── a test of a number that the code has read, by the branch that it took ──
-module _ {v x : ℕ} (e : v ≡ x) (n : ℕ) where
-  pub above : n < v → leb x n ≡ false
-  above h = ap (λ (y : ℕ). leb y n) (sym e) ∙ lt-leb _ _ h
-
-  pub within : v ≤ n → leb x n ≡ true
-  within h = ap (λ (y : ℕ). leb y n) (sym e) ∙ le-leb _ _ h
-
-  pub outside_one : not (leb 1 v && leb v n) ≡ true → (leb 1 x && leb x n) ≡ false
-  outside_one h = ap (λ (y : ℕ). leb 1 y && leb y n) (sym e) ∙ not-true (leb 1 v && leb v n) h
-
-  pub from_one : not (leb 1 v && leb v n) ≡ false → (leb 1 x && leb x n) ≡ true
-  from_one h = ap (λ (y : ℕ). leb 1 y && leb y n) (sym e) ∙ not-false (leb 1 v && leb v n) h
 
 -- ── an order's row from its start ──
 -- line j, from 0, of the order's row at p

@@ -6,10 +6,10 @@
 #[cfg(test)]
 mod tests;
 
-ghost use Rattle.std.specs.Prelude.{◌≡◌, ℕ, ◌<◌, ◌≤◌, true, false, length, take, pos, unwrap_or};
+ghost use Rattle.std.specs.Prelude.{◌≡◌, ℕ, ◌≤◌, length, take, pos, unwrap_or, is_ok, IsOk, IfOk, OnOk};
 ghost use Rattle.std.specs.IoError.{raw_os_error};
-ghost use Rattle.std.specs.Io.KnownBytes.{Keeps, Appends, Consumes, IsAtEnd};
-ghost use Rattle.stdio.specs.Counts.{IsPrefixLen, Status};
+ghost use Rattle.std.specs.Io.KnownBytes.{Keeps, Appends, WriteAppends, ReadConsumes};
+ghost use Rattle.stdio.specs.Counts.{IsPrefixLen};
 ghost use Rattle.stdio.specs.Errors.{is_passing};
 
 use std::fs::OpenFile;
@@ -28,11 +28,12 @@ const EAGAIN: i32 = 11;
 fn again(error: i32) -> bool
     ensures { result ≡ is_passing error }
 {
-    if error == EINTR {
-        return true;
-    }
-    error == EAGAIN
+    matches!(error, EINTR | EAGAIN)
 }
+
+// Standard input or output failed, and standard error was told.
+#[derive(Clone, Copy, Debug, PartialEq, Eq)]
+pub struct Failed;
 
 // Waits a millisecond.
 fn pause(rt: &impl Clock) {
@@ -46,135 +47,90 @@ fn fail(rt: &impl Eprint, what: &str, error: Error) {
     let _ = write!(rest, "{error}");
     let n = 320usize.saturating_sub(rest.len());
     let said = str::from_utf8(&room[..n]).unwrap_or("");
-    let text = match said.split_once(" (os error ") {
-        Some((text, _)) => text,
-        None => said,
-    };
+    let text = said
+        .split_once(" (os error ")
+        .map_or(said, |(text, _)| text);
     let _ = eprintln!(rt; "{what}: {text}");
 }
 
-// After a call that failed: true where it is to be made again, after a pause where it would have had to wait. Else says what failed.
-fn recovers(rt: &(impl Eprint + Clock), what: &str, error: Error) -> bool
-    ensures { result ≡ is_passing (unwrap_or (raw_os_error error) (pos 0)) }
+// After a call that failed: fine where it is to be made again, after a pause where it would have had to wait. Else says what failed.
+fn recover(rt: &(impl Eprint + Clock), what: &str, error: Error) -> Result<(), Failed>
+    ensures { is_ok result ≡ is_passing (unwrap_or (raw_os_error error) (pos 0)) }
 {
     let number = error.raw_os_error().unwrap_or(0);
     if !again(number) {
         fail(rt, what, error);
-        return false;
+        return Err(Failed);
     }
     if number == EAGAIN {
         pause(rt);
     }
-    true
+    Ok(())
 }
 
-// The bytes that one write took, and whether to go on.
-#[derive(Clone, Copy)]
-struct Taken {
-    count: usize,
-    going: bool,
-}
-
-// One write of what is left. A write that takes none of it has no error.
-fn put_some<W: Write>(rt: &(impl Eprint + Clock), out: &mut W, rest: &[u8]) -> Taken
-    ensures prefix_len { IsPrefixLen result.count rest.now }
-    ensures bytes { Appends (W.contents out.old) (W.contents out.new) (take result.count rest.now) }
+// One write of what is left: how many bytes it took. A write that takes none of it has no error.
+fn put_some<W: Write>(rt: &(impl Eprint + Clock), out: &mut W, rest: &[u8]) -> Result<usize, Failed>
+    ensures prefix_len { IfOk result (λ n. IsPrefixLen n rest.now) }
+    ensures bytes { WriteAppends (W.contents out.old) (W.contents out.new) result rest.now }
 {
     match out.write(rest) {
-        Ok(n) => {
-            if n == 0 {
-                let _ = eprintln!(rt; "book: standard output: takes no bytes");
-            }
-            Taken {
-                count: n,
-                going: n > 0,
-            }
+        Ok(0) => {
+            let _ = eprintln!(rt; "book: standard output: takes no bytes");
+            Err(Failed)
         }
+        Ok(n) => Ok(n),
         Err(error) => {
-            let n = 0;
-            let going = recovers(rt, "book: standard output", error);
-            Taken { count: n, going }
+            recover(rt, "book: standard output", error)?;
+            Ok(0)
         }
     }
 }
 
-// Writes all of bytes to a writer. Where that fails says so, and answers false.
-pub fn put_to<W: Write>(rt: &(impl Eprint + Clock), out: &mut W, bytes: &[u8]) -> bool
-    ensures empty { length bytes.now ≡ 0 → result ≡ true }
-    ensures whole { result ≡ true → Appends (W.contents out.old) (W.contents out.new) bytes.now }
+// Writes all of bytes to a writer. Where that fails says so.
+pub fn put_to<W: Write>(rt: &(impl Eprint + Clock), out: &mut W, bytes: &[u8]) -> Result<(), Failed>
+    ensures empty { length bytes.now ≡ 0 → IsOk result }
+    ensures whole { OnOk result (Appends (W.contents out.old) (W.contents out.new) bytes.now) }
     ensures part { (k : ℕ) × (k ≤ length bytes.now) × Appends (W.contents out.old) (W.contents out.new) (take k bytes.now) }
 {
-    let mut done: usize = 0;
-    let mut turns = u64::MAX;
-    while turns > 0 {
-        if done == bytes.len() {
-            return true;
+    let mut rest = bytes;
+    for _ in 0..u64::MAX {
+        if rest.is_empty() {
+            return Ok(());
         }
-        let p = put_some(rt, out, &bytes[done..]);
-        if !p.going {
-            return false;
-        }
-        done += p.count;
-        turns -= 1;
+        let n = put_some(rt, out, rest)?;
+        rest = &rest[n..];
     }
-    false
+    Err(Failed)
 }
 
-// Writes all of bytes to standard output. Where that fails says so, and answers false.
-pub fn put(rt: &(impl Print + Eprint + Clock), bytes: &[u8]) -> bool
-    ensures { length bytes.now ≡ 0 → result ≡ true }
+// Writes all of bytes to standard output. Where that fails says so.
+pub fn put(rt: &(impl Print + Eprint + Clock), bytes: &[u8]) -> Result<(), Failed>
+    ensures { length bytes.now ≡ 0 → IsOk result }
 {
     put_to(rt, &mut io::writer(rt), bytes)
 }
 
-// The bytes read to the front of a buffer, none at the end of the input; whether the read failed.
-#[derive(Clone, Copy)]
-pub struct Got {
-    pub count: usize,
-    pub failed: bool,
-}
-
-// Whether to read again, after a read that failed.
-fn reads_again(rt: &(impl Eprint + Clock), error: Error) -> bool
-    ensures { result ≡ is_passing (unwrap_or (raw_os_error error) (pos 0)) }
+// One read of a reader: how many bytes it put to the front of a buffer, none at the end of the input. Where it fails says so.
+pub fn get_from<R: Read>(
+    rt: &(impl Eprint + Clock),
+    input: &mut R,
+    buf: &mut [u8],
+) -> Result<usize, Failed>
+    ensures prefix_len { IfOk result (λ n. IsPrefixLen n buf.new) }
+    ensures bytes { ReadConsumes (R.remaining input.old) (R.remaining input.new) result buf.new }
 {
-    recovers(rt, "book: standard input", error)
-}
-
-// One read of a reader. Where it fails says so.
-pub fn get_from<R: Read>(rt: &(impl Eprint + Clock), input: &mut R, buf: &mut [u8]) -> Got
-    ensures prefix_len { IsPrefixLen result.count buf.new }
-    ensures count_value { result.failed ≡ true → result.count ≡ 0 }
-    ensures bytes { Consumes (R.remaining input.old) (R.remaining input.new) (take result.count buf.new) }
-    ensures end { result.failed ≡ false → result.count ≡ 0 → 0 < length buf.new → IsAtEnd (R.remaining input.new) }
-{
-    let mut turns = u64::MAX;
-    while turns > 0 {
+    for _ in 0..u64::MAX {
         match input.read(buf) {
-            Ok(n) => {
-                return Got {
-                    count: n,
-                    failed: false,
-                };
-            }
-            Err(error) => {
-                if !reads_again(rt, error) {
-                    break;
-                }
-            }
+            Ok(n) => return Ok(n),
+            Err(error) => recover(rt, "book: standard input", error)?,
         }
-        turns -= 1;
     }
-    Got {
-        count: 0,
-        failed: true,
-    }
+    Err(Failed)
 }
 
 // One read of standard input. Where it fails says so.
-pub fn get(rt: &(impl Input + Eprint + Clock), buf: &mut [u8]) -> Got
-    ensures prefix_len { IsPrefixLen result.count buf.new }
-    ensures count_value { result.failed ≡ true → result.count ≡ 0 }
+pub fn get(rt: &(impl Input + Eprint + Clock), buf: &mut [u8]) -> Result<usize, Failed>
+    ensures { IfOk result (λ n. IsPrefixLen n buf.new) }
 {
     get_from(rt, &mut rt.reader(), buf)
 }
@@ -205,21 +161,13 @@ fn synced(file: &impl OpenFile) -> io::Result<()> {
 
 // Whether standard output is a file, and no pipe or device.
 fn is_file(rt: &impl Files) -> bool {
-    match fs::metadata(rt, "/dev/stdout") {
-        Ok(about) => about.is_file(),
-        Err(_) => false,
-    }
+    fs::metadata(rt, "/dev/stdout").is_ok_and(|about| about.is_file())
 }
 
-// Ends standard output, for some errors show only there: 0, or -1 where it fails, which it says.
-pub fn close(rt: &(impl Files + Eprint), out: &impl AsFd) -> i32
-    ensures { Status result }
-{
-    match settle(rt, out) {
-        Ok(()) => 0,
-        Err(error) => {
-            fail(rt, "book: standard output", error);
-            -1
-        }
-    }
+// Ends standard output, for some errors show only there. Where that fails says so.
+pub fn close(rt: &(impl Files + Eprint), out: &impl AsFd) -> Result<(), Failed> {
+    settle(rt, out).map_err(|error| {
+        fail(rt, "book: standard output", error);
+        Failed
+    })
 }

@@ -62,13 +62,11 @@ fn failing_first(errors: &[i32]) -> Slow<'_> {
 #[test]
 fn puts_through_signals_and_waits(rt: HostRuntime) -> Result<(), Fail> {
     let mut out = failing_first(&[4, 11, 4]);
-    let whole = put_to(&rt, &mut out, b"abcde");
-    assert!(rt; whole);
+    assert_eq!(rt; put_to(&rt, &mut out, b"abcde"), Ok(()));
     assert_eq!(rt; out.moved, 5);
     assert_eq!(rt; out.byte, b'e');
     let mut gone = failing_first(&[4, 32]);
-    let whole = put_to(&rt, &mut gone, b"abcde");
-    assert!(rt; !whole);
+    assert_eq!(rt; put_to(&rt, &mut gone, b"abcde"), Err(Failed));
     assert_eq!(rt; gone.moved, 0);
     Ok(())
 }
@@ -77,11 +75,9 @@ fn puts_through_signals_and_waits(rt: HostRuntime) -> Result<(), Fail> {
 fn gets_through_signals_and_waits(rt: HostRuntime) -> Result<(), Fail> {
     let mut buf = [0u8; 4];
     let got = get_from(&rt, &mut failing_first(&[11, 4]), &mut buf);
-    assert!(rt; !got.failed);
-    assert_eq!(rt; got.count, 2);
+    assert_eq!(rt; got, Ok(2));
     assert_eq!(rt; buf[0], 7);
     let got = get_from(&rt, &mut failing_first(&[4, 5]), &mut buf);
-    assert!(rt; got.failed);
-    assert_eq!(rt; got.count, 0);
+    assert_eq!(rt; got, Err(Failed));
     Ok(())
 }

@@ -1,12 +1,13 @@
 -- Noting items one by one gives the distinct items that pass the test.
 -- Assumes nothing.
 use mathlib.Core.Path.{◌≡◌, refl, sym, ap, ◌∙◌}
-use mathlib.Core.Bool.{Bool, true, false, not, cond}
+use mathlib.Core.Bool.{Bool, true, false, not, ◌||◌, cond}
 use mathlib.Core.List.{List, [], ◌∷◌, ◌++◌, append_assoc, append-nil}
-use Prim.Native.Nat.{ℕ, zero, suc, ◌+◌}
+use Prim.Native.Nat.{ℕ, zero, suc, ◌+◌, ◌≤◌}
 use native.Mathlib.Omega.{arith}
 use borrow.Author.Tests.{eqb-true}
 use lib.Dec.{eqb}
+use lib.ListN.{length, length-append}
 use Rattle.model.specs.Lists.{up_to, keeping, distinct}
 use Rattle.model.specs.Claim.{R}
 use Rattle.model.proofs.RowFacts.{AllIn}
@@ -32,7 +33,7 @@ distinct_snoc (y ∷ ys) x = rw (distinct_snoc ys x) (split (member x ys) (eqb y
   where
     split : (m t : Bool) → eqb y x ≡ t
         → y ∷ keeping (differs y) (cond m (distinct ys) (distinct ys ++ (x ∷ [])))
-        ≡ cond (cond t true m) (distinct (y ∷ ys)) (distinct (y ∷ ys) ++ (x ∷ []))
+        ≡ cond (t || m) (distinct (y ∷ ys)) (distinct (y ∷ ys) ++ (x ∷ []))
     split true true e = refl
     split true false e = refl
     split false true e = ap (λ (l : List ℕ). y ∷ l) (keeping_append (differs y) (distinct ys) (x ∷ []) ∙ rw e (append-nil (keeping (differs y) (distinct ys))))
@@ -44,7 +45,7 @@ member-keeping test x [] p = refl
 member-keeping test x (y ∷ ys) p = split (member-keeping test x ys p) (test y) (eqb y x) refl refl
   where
     split : member x (keeping test ys) ≡ member x ys → (t u : Bool) → test y ≡ t → eqb y x ≡ u
-        → member x (cond t (y ∷ keeping test ys) (keeping test ys)) ≡ cond u true (member x ys)
+        → member x (cond t (y ∷ keeping test ys) (keeping test ys)) ≡ (u || member x ys)
     split h true true e f = rw f
     split h true false e f = rw f h
     split h false true e f =
@@ -56,7 +57,7 @@ member-distinct : (x : ℕ) (ys : List ℕ) → member x (distinct ys) ≡ membe
 member-distinct x [] = refl
 member-distinct x (y ∷ ys) = split (member-distinct x ys) (eqb y x) refl
   where
-    split : member x (distinct ys) ≡ member x ys → (t : Bool) → eqb y x ≡ t → cond t true (member x (keeping (differs y) (distinct ys))) ≡ cond t true (member x ys)
+    split : member x (distinct ys) ≡ member x ys → (t : Bool) → eqb y x ≡ t → (t || member x (keeping (differs y) (distinct ys))) ≡ (t || member x ys)
     split h true e = refl
     split h false e = member-keeping (differs y) x (distinct ys) (ap not e) ∙ h
 
@@ -114,3 +115,12 @@ module _ (P : ℕ → Type 0) where
 pub keeping_alike : (f g : ℕ → Bool) (xs : List ℕ) → AllIn (λ x. f x ≡ g x) xs → keeping f xs ≡ keeping g xs
 keeping_alike f g [] p = refl
 keeping_alike f g (x ∷ xs) p = rw (p.0, keeping_alike f g xs p.1)
+
+-- an item noted is at most one more
+pub noted_length : (test : ℕ → Bool) (seen : List ℕ) (x : ℕ) → length (noted test seen x) ≤ length seen + 1
+noted_length test seen x = split (test x) (member x seen)
+  where
+    split : (t m : Bool) → length (cond t (cond m seen (seen ++ (x ∷ []))) seen) ≤ length seen + 1
+    split true true = omega arith
+    split true false = omega (arith, length-append seen (x ∷ []))
+    split false m = omega arith

@@ -1,15 +1,12 @@
 -- One turn more of the loops that note items, and of the search in the list; the count against the model's.
 -- Assumes nothing.
 use mathlib.Core.Path.{◌≡◌, refl, sym, ap, ◌∙◌, subst}
-use mathlib.Core.Bool.{true, false}
-use mathlib.Core.List.{List, [], ◌∷◌, ◌++◌}
+use mathlib.Core.List.{List, [], ◌++◌}
 use Prim.Native.Nat.{ℕ, zero, suc, ◌+◌, ◌-◌, ◌*◌, ◌<◌, ◌≤◌}
 use native.Mathlib.Numerals.{add-one}
 use native.Mathlib.Omega.{arith}
-use borrow.Author.Tests.{eq-eqb, ne_eqb}
 use lib.Dec.{ltb}
-use lib.ListN.{length, get_or, take, drop, drop_of_length-le}
-use lib.Seq.{drop-cons, get_or-take, length-take-le}
+use lib.ListN.{length, get_or}
 use lib.IntN.{ℤ, pos}
 use Rattle.model.specs.declared.Dims.{Dims}
 use Rattle.model.specs.declared.StockLevel.{StockLevel}
@@ -26,27 +23,8 @@ use Rattle.model.proofs.StockLevelFacts.{window}
 use Rattle.layout.specs.declared.Run.{Run}
 use Rattle.layout.specs.Runs.{row_in, RunOf}
 use Rattle.rows.proofs.Runs.{stock-run, First, window-first}
-use Rattle.stock_level.specs.Notes.{member, noted, note_all, low_at, item_in, items_in, ItemReads, OrderReads, Ready}
+use Rattle.stock_level.specs.Notes.{noted, note_all, low_at, item_in, items_in, ItemReads, OrderReads, Ready}
 use Rattle.stock_level.proofs.Lists.{note_append, note_up, note_distinct, in_append, in_up, in_distinct, keeping_alike}
-
--- ── the search in the list ──
--- a list from its entry i on, where it is the first n of another
-rest : (l : List ℕ) (n i : ℕ) → i < n → n ≤ length l → drop i (take n l) ≡ get_or l i 0 ∷ drop (i + 1) (take n l)
-rest l n i h k =
-    let m : i < length (take n l) = rw (length-take-le n l k) h in
-    drop-cons (take n l) i 0 m ∙ rw (get_or-take n l i 0 h, add-one i)
-
-pub among_here : (x : ℕ) (l : List ℕ) (n i : ℕ) → i < n → n ≤ length l → get_or l i 0 ≡ x → member x (take n l) ≡ member x (drop i (take n l)) → true ≡ member x (take n l)
-among_here x l n i h k e q = sym (q ∙ rw (rest l n i h k, eq-eqb _ _ e))
-
-pub among_next : (x : ℕ) (l : List ℕ) (n i : ℕ) → i < n → n ≤ length l → (get_or l i 0 ≡ x → ⊥) → member x (take n l) ≡ member x (drop i (take n l))
-    → member x (take n l) ≡ member x (drop (i + 1) (take n l))
-among_next x l n i h k e q = q ∙ rw (rest l n i h k, ne_eqb _ _ e)
-
-pub among_end : (x : ℕ) (l : List ℕ) (n i : ℕ) → n ≤ i → n ≤ length l → member x (take n l) ≡ member x (drop i (take n l)) → false ≡ member x (take n l)
-among_end x l n i h k q =
-    let m : length (take n l) ≤ i = rw (length-take-le n l k) h in
-    sym (q ∙ rw (drop_of_length-le (take n l) m))
 
 -- ── the lines of an order, the orders of a window ──
 pub lines-cell : (b : List ℤ) (p : ℕ) → cell b (p + 3) ≡ nat (from b p 3)
@@ -150,13 +128,13 @@ module _ (d : Dims) (b : List ℤ) (q : StockLevel) (v : Ready d b q) (next firs
         (lows threshold n (omega arith))
         (in_up (λ x. low_at b stock threshold x ≡ is_low d b w threshold x) (nat (o 3)) (λ j. nat (line o j 0)) (λ j s. low-is threshold (nat (line o j 0)) (item_in_lem n j (omega arith) s)))
 
-    pub count_is : (l : List ℕ) (n : ℕ) → n ≤ length l → take n l ≡ note_all (low_at b stock q.threshold) [] (items_in b run run.count) → n ≡ low_items d b q
+    pub count_is : {l : List ℕ} {n : ℕ} → n ≡ length l → l ≡ note_all (low_at b stock q.threshold) [] (items_in b run run.count) → n ≡ low_items d b q
     unfolding low_items window_count
-    count_is l n h e =
+    count_is c e =
         let low = low_at b stock q.threshold in
         let m = next - first in
         let p = lows q.threshold m (omega arith) in
-        sym (length-take-le n l h)
+        c
         ∙ ap length
         (e
         ∙ ap (λ (i : ℕ). note_all low [] (items_in b run i)) r.count

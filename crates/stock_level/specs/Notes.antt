@@ -1,6 +1,7 @@
 -- How the code gathers the low items of a window: an item goes to the end of a list where it is low and does not stand there yet.
 -- Assumes nothing.
-use Rattle.std.specs.Prelude.{Bool, true, false, cond, List, [], ◌∷◌, ◌++◌, ℕ, zero, suc, ◌+◌, ◌*◌, ◌-◌, ◌≤◌, eqb, ltb, ℤ, length}
+use Rattle.std.specs.Prelude.{Bool, cond, List, [], ◌∷◌, ◌++◌, ℕ, zero, suc, ◌+◌, ◌*◌, ◌-◌, ◌≤◌, eqb, ltb, ℤ, length}
+use Rattle.std.specs.List.{list_any}
 use Rattle.model.specs.declared.Dims.{Dims}
 use Rattle.model.specs.declared.StockLevel.{StockLevel}
 use Rattle.model.specs.Numbers.{nat, cell}
@@ -14,8 +15,7 @@ use Rattle.layout.specs.Runs.{row_in}
 use Rattle.rows.specs.Book.{Booked}
 
 abbrev pub member : ℕ → List ℕ → Bool
-member x [] = false
-member x (y ∷ ys) = cond (eqb y x) true (member x ys)
+member x = list_any (λ y. eqb y x)
 
 abbrev pub noted : (ℕ → Bool) → List ℕ → ℕ → List ℕ
 noted test seen x = cond (test x) (cond (member x seen) seen (seen ++ (x ∷ []))) seen

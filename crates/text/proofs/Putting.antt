@@ -2,19 +2,18 @@
 -- Assumes nothing.
 use mathlib.Core.Path.{◌≡◌, refl, sym, ap, ◌∙◌, subst}
 use mathlib.Core.Bool.{true, false}
-use mathlib.Core.List.{List, [], ◌∷◌, ◌++◌, append-nil, map-append}
-use Prim.Native.Nat.{ℕ, suc, ◌+◌, ◌-◌, ◌≤◌, ◌<◌}
+use mathlib.Core.List.{List, [], ◌∷◌, ◌++◌, map, append-nil, map-append}
+use Prim.Native.Nat.{ℕ, suc, ◌+◌, ◌≤◌, ◌<◌}
 use native.Mathlib.Nat.{add-suc, suc-add, add-zero, zero-add}
 use native.Mathlib.Numerals.{add-one}
 use native.Mathlib.Omega.{arith}
-use lib.Dec.{T}
-use lib.IntN.{ℤ, pos, negsuc, nat_abs, ◌-ℤ◌}
-use lib.Signed.{lt_z, non_neg}
-use lib.ListN.{length, get_or, take, drop, set, length-append, get_or-map}
+use lib.IntN.{ℤ, pos, negsuc, nat_abs}
+use lib.Signed.{lt_z}
+use lib.ListN.{length, get_or, take, drop, set, length-append}
 use lib.Seq.{sets, sets-eq, take-suc, take_all, take_at}
-use borrow.Author.Tests.{le-ltb, ltb-true}
+use borrow.Author.Tests.{ltb-true}
 use mir.Syntax.{w64}
-use mir.Val.{SFits, Fits, to_z, of_z}
+use mir.Val.{SFits, to_z, of_z}
 use mir.Facts.{to_z-of_z}
 use Rattle.model.specs.Text.{decimal, signed, signeds, positives, tabbed, line_text}
 use Rattle.model.proofs.DecimalLaws.{dec_few}
@@ -61,20 +60,21 @@ pub fields_then : (l m k : List ℕ) (at p q : ℕ) (fs gs : List (List ℕ)) �
 fields_then l m k at p q fs gs a b = rw (tabbed_append fs gs) (wrote_then l m k at p q (tabbed fs) (tabbed gs) a b)
 
 -- numbers of a list, one by one
-module _ (l m : List ℕ) (at p i : ℕ) (zs : List ℤ) where
-  pub number_step : (k : List ℕ) (q : ℕ) → i < length zs → Wrote l m at p (tabbed (signeds (take i zs))) → Wrote m k p q (tabbed (signed (get_or zs i (pos 0)) ∷ []))
-      → Wrote l k at q (tabbed (signeds (take (i + 1) zs)))
-  number_step k q h a b =
-      let z = get_or zs i (pos 0) in
-      let e : signeds (take (i + 1) zs) ≡ signeds (take i zs) ++ (signed z ∷ []) =
-      ap (λ (j : ℕ). signeds (take j zs)) (add-one i) ∙ ap signeds (take-suc zs i (pos 0) h) ∙ map-append signed (take i zs) (z ∷ []) in
-      subst (λ (fs : List (List ℕ)). Wrote l k at q (tabbed fs)) (sym e) (fields_then l m k at p q (signeds (take i zs)) (signed z ∷ []) a b)
+module _ {A : Type 0} (f : A → List ℕ) (l m : List ℕ) (at p i : ℕ) (xs : List A) where
+  pub number_step : (k : List ℕ) (q : ℕ) (x : A) → x ≡ get_or xs i x → i < length xs → Wrote l m at p (tabbed (map f (take i xs))) → Wrote m k p q (tabbed (f x ∷ []))
+      → Wrote l k at q (tabbed (map f (take (i + 1) xs)))
+  number_step k q x is h a b =
+      let e : map f (take (i + 1) xs) ≡ map f (take i xs) ++ (f x ∷ []) =
+      ap (λ (j : ℕ). map f (take j xs)) (add-one i) ∙ ap (map f) (take-suc xs i x h ∙ ap (λ (y : A). take i xs ++ (y ∷ [])) (sym is)) ∙ map-append f (take i xs) (x ∷ []) in
+      subst (λ (fs : List (List ℕ)). Wrote l k at q (tabbed fs)) (sym e) (fields_then l m k at p q (map f (take i xs)) (f x ∷ []) a b)
 
-  pub number-all : length zs ≤ i → Wrote l m at p (tabbed (signeds (take i zs))) → Wrote l m at p (tabbed (signeds zs))
-  number-all h a = subst (λ (ys : List ℤ). Wrote l m at p (tabbed (signeds ys))) (take_all i zs h) a
+  pub number-all : length xs ≤ i → Wrote l m at p (tabbed (map f (take i xs))) → Wrote l m at p (tabbed (map f xs))
+  number-all h a = subst (λ (ys : List A). Wrote l m at p (tabbed (map f ys))) (take_all i xs h) a
 
-pub positive_at : (l m : List ℕ) (at p i : ℕ) (ns : List ℕ) → Wrote l m at p (tabbed (decimal (get_or ns i 0) ∷ [])) → Wrote l m at p (tabbed (signed (get_or (positives ns) i (pos 0)) ∷ []))
-positive_at l m at p i ns a = subst (λ (z : ℤ). Wrote l m at p (tabbed (signed z ∷ []))) (sym (get_or-map pos ns i 0)) a
+-- numbers without signs, as signed ones are written
+pub positives_text : (ns : List ℕ) → map decimal ns ≡ signeds (positives ns)
+positives_text [] = refl
+positives_text (n ∷ ns) = ap (λ (fs : List (List ℕ)). decimal n ∷ fs) (positives_text ns)
 
 -- ── a whole line, by its first byte, its fields and its byte 10 ──
 pub whole-line : (l m : List ℕ) (p x : ℕ) (fs : List (List ℕ)) → Wrote (set l 0 x) m 1 p (tabbed fs) → Wrote l (set m p 10) 0 (p + 1) (line_text ((x ∷ []) ∷ fs))
@@ -82,41 +82,16 @@ unfolding line_text
 whole-line l m p x fs w =
     wrote_then l m (set m p 10) 0 p (p + 1) (x ∷ tabbed fs) (10 ∷ []) (byte_first l m 0 1 p x (tabbed fs) refl w) (record { same = refl; place = refl })
 
--- ── a negative number without its sign ──
-less_one : (n : ℕ) → negsuc 0 -ℤ negsuc n ≡ pos n
-less_one n =
-    let e : suc n - 1 ≡ n = omega arith in
-    rw (le-ltb (suc n) 1 (omega arith), e)
-
--- what -1 less a negative number asks and gives, as code computes it
-pub record Turned (z : ℤ) : Type 0 where
-  pub fits : SFits w64 (negsuc 0 -ℤ to_z w64 (of_z w64 z))
-  pub asks : T (non_neg (to_z w64 (of_z w64 (negsuc 0 -ℤ to_z w64 (of_z w64 z))))) × Fits w64 (nat_abs (to_z w64 (of_z w64 (negsuc 0 -ℤ to_z w64 (of_z w64 z)))))
-  pub next : Fits w64 (nat_abs (to_z w64 (of_z w64 (negsuc 0 -ℤ to_z w64 (of_z w64 z)))) + 1)
-  pub value : nat_abs (to_z w64 (of_z w64 (negsuc 0 -ℤ to_z w64 (of_z w64 z)))) + 1 ≡ nat_abs z
-
-pub turned : (z : ℤ) → SFits w64 z → lt_z z (pos 0) ≡ true → Turned z
-turned (pos n) f e = absurd (omega (arith, ltb-true n 0 e))
-turned (negsuc n) f e =
-    let h : SFits w64 (pos n) = record { sfits = f.sfits } in
-    let a : negsuc 0 -ℤ to_z w64 (of_z w64 (negsuc n)) ≡ pos n = rw (to_z-of_z f) (less_one n) in
-    record {
-      fits = rw a h;
-      asks = rw (a, to_z-of_z h) (tt, record { fits = omega (arith, f.sfits) });
-      next = rw (a, to_z-of_z h) (record { fits = omega (arith, f.sfits) });
-      value = rw (a, to_z-of_z h) (add-one n);
-    }
-
-pub kept : (z : ℤ) → SFits w64 z → nat_abs (to_z w64 (of_z w64 z)) ≡ nat_abs z
-kept z f = rw (to_z-of_z f)
-
+-- ── a signed number ──
 -- without its sign it has at most nineteen digits
 magnitude_fits : (z : ℤ) → SFits w64 z → nat_abs z < 10000000000000000000
 magnitude_fits (pos n) f = omega (arith, f.sfits)
 magnitude_fits (negsuc n) f = omega (arith, f.sfits)
 
-pub magnitude_few : (z : ℤ) (n : ℕ) → SFits w64 z → n ≡ nat_abs z → length (decimal n) ≤ 19
-magnitude_few z n f e = rw e (dec_few 18 (nat_abs z) (omega arith) (magnitude_fits z f))
+pub magnitude : (z : ℤ) (n : ℕ) → SFits w64 z → n ≡ nat_abs (to_z w64 (of_z w64 z)) → (n ≡ nat_abs z) × (length (decimal n) ≤ 19)
+magnitude z n f e =
+    let q : n ≡ nat_abs z = rw (to_z-of_z f) at e in
+    (q, rw q (dec_few 18 (nat_abs z) (omega arith) (magnitude_fits z f)))
 
 -- a signed number, by its sign and digits
 plain : (z : ℤ) → lt_z z (pos 0) ≡ false → decimal (nat_abs z) ≡ signed z

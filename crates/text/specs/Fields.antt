@@ -1,9 +1,7 @@
 -- A text's fields as code walks them: by the position where a field starts.
 -- Assumes nothing.
-use Rattle.std.specs.Prelude.{◌≡◌, Bool, true, false, cond, List, [], ◌∷◌, ℕ, ◌+◌, ◌-◌, ◌≤◌, leb, length, take, drop}
+use Rattle.std.specs.Prelude.{◌≡◌, Bool, true, false, cond, Option, Some, None, List, [], ◌∷◌, ℕ, ◌+◌, ◌-◌, ◌≤◌, leb, length, take, drop}
 use Rattle.model.specs.Text.{is_number, value_of, parted_by}
-use Rattle.text.specs.declared.Number.{Number}
-use Rattle.text.specs.declared.Step.{Step}
 
 -- the parts between bytes x, and the fields between tabs, from a position on; the position after the last is one past the end
 unfoldable pub parts_from : ℕ → List ℕ → ℕ → List (List ℕ)
@@ -19,8 +17,8 @@ pub record FieldEnd (x : ℕ) (s : List ℕ) (at e : ℕ) : Type 0 where
   pub parts : parts_from x s at ≡ take (e - at) (drop at s) ∷ parts_from x s (e + 1)
 
 -- the number that a field holds
-unfoldable pub number_read : List ℕ → Number
-number_read f = cond (is_number f) (Number.Value (value_of f)) Number.Bad
+unfoldable pub number_read : List ℕ → Option ℕ
+number_read f = cond (is_number f) (Some (value_of f)) None
 
 -- the first of some fields is a number
 abbrev pub has_number : List (List ℕ) → Bool
@@ -35,6 +33,6 @@ pub record Stepped (s : List ℕ) (at v next : ℕ) : Type 0 where
   pub value : value_of first ≡ v
   pub within : next ≤ length s + 1
 
-abbrev pub StepSays : List ℕ → ℕ → Step → Type 0
-StepSays s at (Step.Value v next) = Stepped s at v next
-StepSays s at Step.Bad = has_number (fields_from s at) ≡ false
+abbrev pub StepSays : List ℕ → ℕ → Option (ℕ × ℕ) → Type 0
+StepSays s at (Some (v, next)) = Stepped s at v next
+StepSays s at None = has_number (fields_from s at) ≡ false

@@ -1,26 +1,13 @@
 // Numbers in decimal digits and fields parted by tabs: written from a place on, and read.
+// A line is lent with the place to write at, which each function hands on: a writer that holds both would say as much in each clause, of its fields.
 #![tactic(auto)]
 
-ghost use Rattle.std.specs.Prelude.{◌≡◌, [], ◌∷◌, ◌+◌, ◌≤◌, ◌<◌, nat_abs, length};
-ghost use Rattle.model.specs.Text.{is_digit, decimal, signed, signeds, positives, tabbed, line_text};
+ghost use Rattle.std.specs.Prelude.{◌≡◌, [], ◌∷◌, List, ℕ, map, ◌+◌, ◌*◌, ◌≤◌, length};
+ghost use Rattle.model.specs.Text.{decimal, signed, tabbed, line_text};
 ghost use Rattle.text.specs.Writing.{Wrote};
 ghost use Rattle.text.specs.Fields.{FieldEnd, number_read, StepSays};
 
-// What a field holds: a number, or none.
-#[derive(Clone, Copy)]
-pub enum Number {
-    Value(u64),
-    Bad,
-}
-
-// A number in a field and where the next field starts, or none.
-#[derive(Clone, Copy)]
-pub enum Step {
-    Value(u64, usize),
-    Bad,
-}
-
-// The digits of a number written from a place on; the place after them.
+// The digits of a number written from a place on; the place after them. Of `write!` into a slice std says how many bytes it took and not which.
 pub fn put_digits(line: &mut [u8], at: usize, n: u64) -> usize
     requires { at + length (decimal n) ≤ length line.old }
     ensures { Wrote line.old line.new at result (decimal n) }
@@ -39,18 +26,8 @@ pub fn put_number(line: &mut [u8], at: usize, n: u64) -> usize
     requires { at + 1 + length (decimal n) ≤ length line.old }
     ensures { Wrote line.old line.new at result (tabbed (decimal n ∷ [])) × (result ≤ at + 21) }
 {
-    line[at] = 9;
+    line[at] = b'\t';
     put_digits(line, at + 1, n)
-}
-
-// A number without its sign.
-fn magnitude(z: i64) -> u64
-    ensures { result ≡ nat_abs z }
-{
-    if z < 0 {
-        return (-1 - z) as u64 + 1;
-    }
-    z as u64
 }
 
 // A tab and a signed number, where there is room for the longest.
@@ -58,43 +35,49 @@ pub fn put_signed(line: &mut [u8], at: usize, z: i64) -> usize
     requires { at + 21 ≤ length line.old }
     ensures { Wrote line.old line.new at result (tabbed (signed z ∷ [])) × (result ≤ at + 21) }
 {
-    let n = magnitude(z);
-    line[at] = 9;
+    let n = z.unsigned_abs();
+    line[at] = b'\t';
     if z < 0 {
-        line[at + 1] = 45;
+        line[at + 1] = b'-';
         return put_digits(line, at + 2, n);
     }
     put_digits(line, at + 1, n)
 }
 
-// Two numbers, each after a tab, where there is room for the longest.
-pub fn put_two(line: &mut [u8], at: usize, a: u64, b: u64) -> usize
-    requires { at + 42 ≤ length line.old }
-    ensures { Wrote line.old line.new at result (tabbed (decimal a ∷ decimal b ∷ [])) × (result ≤ at + 42) }
-{
-    let p = put_number(line, at, a);
-    put_number(line, p, b)
+// A number that stands in a field, its text at most twenty bytes long.
+pub trait Shown: Copy {
+    ghost text: { Self → List ℕ };
+
+    // A tab and the number, where there is room for the longest.
+    fn put(self, line: &mut [u8], at: usize) -> usize
+        requires { at + 21 ≤ length line.old }
+        ensures { Wrote line.old line.new at result (tabbed (text self ∷ [])) × (result ≤ at + 21) };
 }
 
-// Three numbers, each after a tab, where there is room for the longest.
-pub fn put_three(line: &mut [u8], at: usize, a: u64, b: u64, c: u64) -> usize
-    requires { at + 63 ≤ length line.old }
-    ensures { Wrote line.old line.new at result (tabbed (decimal a ∷ decimal b ∷ decimal c ∷ [])) × (result ≤ at + 63) }
-{
-    let p = put_two(line, at, a, b);
-    put_number(line, p, c)
+impl Shown for u64 {
+    ghost text = { decimal };
+
+    fn put(self, line: &mut [u8], at: usize) -> usize {
+        put_number(line, at, self)
+    }
 }
 
-// Ten numbers, each after a tab, where there is room for the longest.
-pub fn put_ten(line: &mut [u8], at: usize, numbers: [u64; 10]) -> usize
-    requires { at + 210 ≤ length line.old }
-    ensures { Wrote line.old line.new at result (tabbed (signeds (positives numbers))) × (result ≤ at + 210) }
+impl Shown for i64 {
+    ghost text = { signed };
+
+    fn put(self, line: &mut [u8], at: usize) -> usize {
+        put_signed(line, at, self)
+    }
+}
+
+// Numbers, each after a tab, where there is room for the longest.
+pub fn put_numbers<T: Shown>(line: &mut [u8], at: usize, numbers: &[T]) -> usize
+    requires { at + 21 * length numbers.now ≤ length line.old }
+    ensures { Wrote line.old line.new at result (tabbed (map T.text numbers.now)) × (result ≤ at + 21 * length numbers.now) }
 {
     let mut p = at;
-    let mut i = 0;
-    while i < 10 {
-        p = put_number(line, p, numbers[i]);
-        i += 1;
+    for n in numbers {
+        p = n.put(line, p);
     }
     p
 }
@@ -105,8 +88,8 @@ pub fn three_line(line: &mut [u8], x: u8, a: u64, b: u64, c: u64) -> usize
     ensures { Wrote line.old line.new 0 result (line_text ((x ∷ []) ∷ decimal a ∷ decimal b ∷ decimal c ∷ [])) × (result ≤ 65) }
 {
     line[0] = x;
-    let p = put_three(line, 1, a, b, c);
-    line[p] = 10;
+    let p = put_numbers(line, 1, &[a, b, c]);
+    line[p] = b'\n';
     p + 1
 }
 
@@ -115,69 +98,38 @@ pub fn field_end(s: &[u8], at: usize, x: u8) -> usize
     requires { at ≤ length s.now }
     ensures { FieldEnd x s.now at result }
 {
-    let mut i = at;
-    while i < s.len() {
-        if s[i] == x {
-            return i;
-        }
-        i += 1;
-    }
-    i
-}
-
-// A byte as a number.
-pub fn wide(x: u8) -> u64
-    ensures { result ≡ x }
-{
-    x as u64
-}
-
-// A byte is a digit.
-fn is_digit(x: u64) -> bool
-    ensures { result ≡ is_digit x }
-{
-    (48 <= x) & (x <= 57)
+    at + s[at..].iter().take_while(|y| **y != x).count()
 }
 
 // The number that a field holds.
-pub fn number_of(f: &[u8]) -> Number
+pub fn number_of(f: &[u8]) -> Option<u64>
     ensures { result ≡ number_read f.now }
 {
-    let n = f.len();
-    if n < 1 {
-        return Number::Bad;
+    if f.is_empty() | (10 < f.len()) {
+        return None;
     }
-    if 10 < n {
-        return Number::Bad;
+    if (f.len() != 1) & (f[0] == b'0') {
+        return None;
     }
-    if (n != 1) & (f[0] == 48) {
-        return Number::Bad;
-    }
-    let mut v: u64 = 0;
-    let mut i = 0;
-    while i < n {
-        let x = wide(f[i]);
-        if is_digit(x) {
-            v = v * 10 + (x - 48);
-        } else {
-            return Number::Bad;
+    let mut v = 0;
+    for x in f {
+        if !x.is_ascii_digit() {
+            return None;
         }
-        i += 1;
+        v = v * 10 + u64::from(*x - b'0');
     }
-    Number::Value(v)
+    Some(v)
 }
 
-// The number in the field that starts at a position.
-pub fn number_at(s: &[u8], at: usize) -> Step
+// The number in the field that starts at a position, and where the next field starts.
+pub fn number_at(s: &[u8], at: usize) -> Option<(u64, usize)>
     requires { at ≤ length s.now + 1 }
     ensures { StepSays s.now at result }
 {
     if s.len() < at {
-        return Step::Bad;
+        return None;
     }
-    let e = field_end(s, at, 9);
-    let Number::Value(v) = number_of(&s[at..e]) else {
-        return Step::Bad;
-    };
-    Step::Value(v, e + 1)
+    let e = field_end(s, at, b'\t');
+    let v = number_of(&s[at..e])?;
+    Some((v, e + 1))
 }

@@ -1,13 +1,13 @@
 -- The pass over the table's rows: what the ors of a row's numbers, and of their sums, say of the row.
 -- Assumes nothing.
-use Rattle.std.proofs.Common.{◌≡◌, ℕ, ◌+◌, ◌-◌, ◌*◌, ◌%◌, ◌^◌, ◌<◌, ◌≤◌, Bool, true, false, cond, ◌&&◌, leb, ◌≢◌, List, [], ◌∷◌, length, ℤ, sym, refl, ap, ◌∙◌, mod-eq_of_lt, arith, ltb-true, lt-ltb, eq-eqb, ne_eqb, le-leb, leb-true}
+use Rattle.std.proofs.Common.{◌≡◌, ℕ, ◌+◌, ◌-◌, ◌*◌, ◌%◌, ◌^◌, ◌<◌, ◌≤◌, Bool, true, false, cond, ◌&&◌, leb, List, [], ◌∷◌, length, ℤ, sym, refl, ap, ◌∙◌, mod-eq_of_lt, arith, ltb-true, lt-ltb, le-leb, leb-true}
 use native.Mathlib.Nat.{mod-eq-sub-mod}
 use native.Mathlib.Decide.{dec_lt}
 use lib.Bits.{bit_or}
 use Rattle.model.specs.declared.Dims.{Dims}
 use Rattle.model.specs.Tests.{every, all_to}
 use Rattle.model.specs.Numbers.{cell}
-use Rattle.model.specs.TopUp.{margin_of, lift_of, row_tests, row_ok, topup_ok}
+use Rattle.model.specs.TopUp.{margin_of, lift_of, row_tests, row_ok}
 use Rattle.model.specs.Claim.{R}
 use Rattle.model.proofs.RuleLaws.{Tabled}
 use Rattle.model.proofs.TestLaws.{and_left, and_right, and_both, every-each, each-every, all_none, all-step}
@@ -91,13 +91,13 @@ module _ (topup : List ℤ) where
 
   pub kept_step : (low high i m l o s a b : ℕ) → l < 2 ^ 64 → cell topup (2 * i) ≡ cond (below m) m (2 ^ 63) → cell topup (2 * i + 1) ≡ cond (below l) l (2 ^ 63)
       → o ≡ (l + 18446744073709551606) % 2 ^ 64 → s ≡ (m + o) % 2 ^ 64 → a ≡ (o + 9223372036854765818) % 2 ^ 64 → b ≡ (s + 9223372036854765817) % 2 ^ 64
-      → Kept low high i → Kept (bit_or (bit_or low m) o) (bit_or (bit_or high a) b) (i + 1)
+      → Kept low high i → Kept (bit_or low (bit_or m o)) (bit_or high (bit_or a b)) (i + 1)
   unfolding row_ok margin_of lift_of
   kept_step low high i m l o s a b fits em el o_is s-is a-is b-is e =
       let p : 2 * (i + 1 - 1) ≡ 2 * i = omega arith in
       let row : ((below m && below a) && (below o && below b)) ≡ row_ok topup (i + 1) =
       row_is m l o s a b fits o_is s-is a-is b-is ∙ rw (← em, ← el, p) in
-      rw (or_below (bit_or low m) o, or_below low m, or_below (bit_or high a) b, or_below high a, all-step (row_ok topup) i, ← e, ← row)
+      rw (or_below low (bit_or m o), or_below m o, or_below high (bit_or a b), or_below a b, all-step (row_ok topup) i, ← e, ← row)
       (sorted (below low) (below high) (below m) (below a) (below o) (below b))
 
 -- ── an item's two numbers ──
@@ -118,12 +118,3 @@ module _ (topup : List ℤ) (i : ℕ) {v : ℕ} where
   pub lift_read : v ≡ cell topup (2 * (i - 1) + 1) → v ≡ lift_of topup i
   unfolding lift_of
   lift_read e = e
-
--- ── 17 ──
-pub table_is : (d : Dims) (topup : List ℤ) {t : Bool} → length topup ≡ 2 * d.items → t ≡ all_to d.items (row_ok topup) → t ≡ topup_ok d topup
-unfolding topup_ok
-table_is d topup e h = h ∙ rw (eq-eqb (length topup) (2 * d.items) e)
-
-pub table_short : (d : Dims) (topup : List ℤ) → length topup ≢ 2 * d.items → false ≡ topup_ok d topup
-unfolding topup_ok
-table_short d topup e = rw (ne_eqb (length topup) (2 * d.items) e)

@@ -19,31 +19,23 @@ fn rows_ok(topup: &[i64], n: u64) -> bool
 {
     let mut low = 0;
     let mut high = 0;
-    let mut i = 0;
-    while i < n {
+    for i in 0..n {
         let margin = cells::bits(topup, 2 * i);
-        let lift = cells::bits(topup, 2 * i + 1);
-        let over = std::num::wrapping_add_u64(lift, 18446744073709551606);
-        let both = std::num::wrapping_add_u64(margin, over);
-        low = low | margin | over;
-        high = high
-            | std::num::wrapping_add_u64(over, 9223372036854765818)
-            | std::num::wrapping_add_u64(both, 9223372036854765817);
-        i += 1;
+        let over = cells::bits(topup, 2 * i + 1).wrapping_sub(10);
+        let both = margin.wrapping_add(over);
+        low |= margin | over;
+        high |= over.wrapping_add(9223372036854765818) | both.wrapping_add(9223372036854765817);
     }
     (low < 9223372036854775808) & (high < 9223372036854775808)
 }
 
 // 17: the table is as long as it has to be, and each of its rows keeps the rules.
+#[tactic(auto, unfolding(model::specs::TopUp::topup_ok))]
 pub fn table_ok(topup: &[i64], d: Dims) -> bool
     requires { Dimensioned d }
     ensures { result ≡ topup_ok d topup.now }
 {
-    let long = topup.len() as u64;
-    if long != 2 * d.items {
-        return false;
-    }
-    rows_ok(topup, d.items)
+    topup.len() as u64 == 2 * d.items && rows_ok(topup, d.items)
 }
 
 // An item's margin.

@@ -8,12 +8,15 @@ use native.Mathlib.Nat.{le_antisymm, mul-le-mul_right, mul_assoc, mul_comm, pow-
 use native.Mathlib.Omega.{arith}
 use borrow.Author.Tests.{ltb-true, ltb-false, lt-ltb, le-ltb}
 use lib.Dec.{ltb}
-use lib.ListN.{length, get_or, take, drop, length-drop, take-append-drop, drop_of_length-le}
+use lib.ListN.{length, get_or, take, drop, length-drop, take-append-drop}
 use lib.Seq.{length-take-le, drop-cons, drop_at, drop-drop, take-take, take-add}
-use Rattle.model.specs.declared.Comparison.{Comparison}
-use Rattle.model.specs.declared.Comparison.TheVariants.{Smaller, Equal, Larger}
+use Rattle.std.specs.declared.cmp.Ordering.{Ordering}
+use Rattle.std.specs.declared.cmp.Ordering.TheVariants.{Less, Equal, Greater}
 use Rattle.model.specs.Names.{compare_names, name_at}
 use Rattle.model.proofs.TestLaws.{and_left, and_right, and_both}
+use Rattle.std.specs.Int.{w64, from_be_bytes}
+use Rattle.std.specs.Ordering.{ordering_then, nat_cmp, MatchOrdering}
+use Rattle.std.proofs.lemmas.Bool.Decides.{nat_tests}
 use Rattle.words.specs.Words.{word_from, word_of, first_of, compare_words, bytes, WordFits, WordsAsBytes}
 
 -- what is known of the first byte, and of the rest
@@ -23,35 +26,33 @@ byte_first x xs h = ltb-true x 256 (and_left (ltb x 256) (bytes xs) h)
 byte_rest : (x : ℕ) (xs : List ℕ) → bytes (x ∷ xs) ≡ true → bytes xs ≡ true
 byte_rest x xs h = and_right (ltb x 256) (bytes xs) h
 
--- a comparison, and where it is equal what follows
-abbrev pub then_by : Comparison → Comparison → Comparison
-then_by Smaller rest = Smaller
-then_by Equal rest = rest
-then_by Larger rest = Larger
-
-then_equal : (c : Comparison) → then_by c Equal ≡ c
-then_equal Smaller = refl
+then_equal : (c : Ordering) → ordering_then c Equal ≡ c
+then_equal Less = refl
 then_equal Equal = refl
-then_equal Larger = refl
+then_equal Greater = refl
 
-module _ {x y : ℕ} (rest : Comparison) where
-  pub less : x < y → first_of x y rest ≡ Smaller
+module _ {x y : ℕ} (rest : Ordering) where
+  less : x < y → first_of x y rest ≡ Less
   less h = rw (lt-ltb x y h)
 
-  pub more : y < x → first_of x y rest ≡ Larger
+  more : y < x → first_of x y rest ≡ Greater
   more h = rw (le-ltb x y (omega arith), lt-ltb y x h)
 
-  pub same : x ≡ y → first_of x y rest ≡ rest
+  same : x ≡ y → first_of x y rest ≡ rest
   same e = rw (le-ltb x y (omega arith), le-ltb y x (omega arith))
 
 -- two numbers, and then what follows
-pub first_then : (x y : ℕ) (rest : Comparison) → first_of x y rest ≡ then_by (first_of x y Equal) rest
+first_then : (x y : ℕ) (rest : Ordering) → first_of x y rest ≡ ordering_then (first_of x y Equal) rest
 first_then x y rest = by_tests (ltb x y) (ltb y x)
   where
-    by_tests : (s t : Bool) → cond s Smaller (cond t Larger rest) ≡ then_by (cond s Smaller (cond t Larger Equal)) rest
+    by_tests : (s t : Bool) → cond s Less (cond t Greater rest) ≡ ordering_then (cond s Less (cond t Greater Equal)) rest
     by_tests true t = refl
     by_tests false true = refl
     by_tests false false = refl
+
+-- two numbers as the library compares them
+first_cmp : (x y : ℕ) → nat_cmp x y ≡ first_of x y Equal
+first_cmp x y = grind (arith, nat_tests)
 
 -- what stands before decides
 front_less : (x y : List ℕ) (n m : ℕ) → length x ≡ length y → bytes x ≡ true → n < m → word_from n x < word_from m y
@@ -63,8 +64,8 @@ front_less (a ∷ x) (b ∷ y) n m e f h =
     front_less x y (n * 256 + a) (m * 256 + b) (omega arith) (byte_rest a x f) (omega arith)
 
 -- bytes behind equal fronts as one number, whatever the length
-words_then : (x y : List ℕ) (n : ℕ) (rest : Comparison) → length x ≡ length y → bytes x ≡ true → bytes y ≡ true
-    → first_of (word_from n x) (word_from n y) rest ≡ then_by (compare_names x y) rest
+words_then : (x y : List ℕ) (n : ℕ) (rest : Ordering) → length x ≡ length y → bytes x ≡ true → bytes y ≡ true
+    → first_of (word_from n x) (word_from n y) rest ≡ ordering_then (compare_names x y) rest
 unfolding compare_names
 words_then [] [] n rest e f g = same {x = n} {y = n} rest refl
 words_then [] (b ∷ y) n rest e f g = absurd (omega arith)
@@ -73,9 +74,9 @@ words_then (a ∷ x) (b ∷ y) n rest e f g =
     let l : length x ≡ length y = omega arith in
     by_first l (words_then x y (n * 256 + b) rest l (byte_rest a x f) (byte_rest b y g)) (ltb a b) (ltb b a) refl refl
   where
-    by_first : length x ≡ length y → first_of (word_from (n * 256 + b) x) (word_from (n * 256 + b) y) rest ≡ then_by (compare_names x y) rest
+    by_first : length x ≡ length y → first_of (word_from (n * 256 + b) x) (word_from (n * 256 + b) y) rest ≡ ordering_then (compare_names x y) rest
         → (s t : Bool) → ltb a b ≡ s → ltb b a ≡ t
-        → first_of (word_from (n * 256 + a) x) (word_from (n * 256 + b) y) rest ≡ then_by (cond s Smaller (cond t Larger (compare_names x y))) rest
+        → first_of (word_from (n * 256 + a) x) (word_from (n * 256 + b) y) rest ≡ ordering_then (cond s Less (cond t Greater (compare_names x y))) rest
     by_first l i true t p q = less rest (front_less x y (n * 256 + a) (n * 256 + b) l (byte_rest a x f) (omega (arith, ltb-true a b p)))
     by_first l i false true p q = more rest (front_less y x (n * 256 + b) (n * 256 + a) (sym l) (byte_rest b y g) (omega (arith, ltb-true b a q)))
     by_first l i false false p q =
@@ -83,15 +84,15 @@ words_then (a ∷ x) (b ∷ y) n rest e f g =
         rw k i
 
 -- names in two parts: the first parts, then the second
-parts_then : (x y u v : List ℕ) → length x ≡ length y → compare_names (x ++ u) (y ++ v) ≡ then_by (compare_names x y) (compare_names u v)
+parts_then : (x y u v : List ℕ) → length x ≡ length y → compare_names (x ++ u) (y ++ v) ≡ ordering_then (compare_names x y) (compare_names u v)
 unfolding compare_names
 parts_then [] [] u v e = refl
 parts_then [] (b ∷ y) u v e = absurd (omega arith)
 parts_then (a ∷ x) [] u v e = absurd (omega arith)
 parts_then (a ∷ x) (b ∷ y) u v e = by_first (parts_then x y u v (omega arith)) (ltb a b) (ltb b a)
   where
-    by_first : compare_names (x ++ u) (y ++ v) ≡ then_by (compare_names x y) (compare_names u v)
-        → (s t : Bool) → cond s Smaller (cond t Larger (compare_names (x ++ u) (y ++ v))) ≡ then_by (cond s Smaller (cond t Larger (compare_names x y))) (compare_names u v)
+    by_first : compare_names (x ++ u) (y ++ v) ≡ ordering_then (compare_names x y) (compare_names u v)
+        → (s t : Bool) → cond s Less (cond t Greater (compare_names (x ++ u) (y ++ v))) ≡ ordering_then (cond s Less (cond t Greater (compare_names x y))) (compare_names u v)
     by_first i true t = refl
     by_first i false true = refl
     by_first i false false = i
@@ -114,7 +115,7 @@ pub words_as_bytes : WordsAsBytes
 unfolding compare_words word_of
 words_as_bytes x y e h f g =
     words_then (take 8 x) (take 8 y) 0 (first_of (word_from 0 (drop 8 x)) (word_from 0 (drop 8 y)) Equal) (length_half x e ∙ sym (length_half y h)) (bytes_half 8 x f).0 (bytes_half 8 y g).0
-    ∙ ap (then_by (compare_names (take 8 x) (take 8 y))) (words_then (drop 8 x) (drop 8 y) 0 Equal (length_rest x e ∙ sym (length_rest y h)) (bytes_half 8 x f).1 (bytes_half 8 y g).1 ∙ then_equal _)
+    ∙ ap (ordering_then (compare_names (take 8 x) (take 8 y))) (words_then (drop 8 x) (drop 8 y) 0 Equal (length_rest x e ∙ sym (length_rest y h)) (bytes_half 8 x f).1 (bytes_half 8 y g).1 ∙ then_equal _)
     ∙ sym (parts_then (take 8 x) (take 8 y) (drop 8 x) (drop 8 y) (length_half x e ∙ sym (length_half y h)))
     ∙ rw (take-append-drop 8 x, take-append-drop 8 y)
 
@@ -133,27 +134,23 @@ word_fits xs e f =
     omega (arith, rw e at h)
 
 -- ── what the code finds ──
--- a byte more
-word_next : (s : List ℕ) (j w : ℕ) {v : ℕ} → j < length s → v ≡ w * 256 + get_or s j 0 → word_from w (drop j s) ≡ word_from v (drop (suc j) s)
-word_next s j w {v} h e = rw (drop-cons s j 0 h, e)
-
--- eight bytes in turn
-pub word_eight : (s : List ℕ) {a b c d e f g h : ℕ} → length s ≡ 8
-    → a ≡ 0 * 256 + get_or s 0 0 → b ≡ a * 256 + get_or s 1 0 → c ≡ b * 256 + get_or s 2 0 → d ≡ c * 256 + get_or s 3 0
-    → e ≡ d * 256 + get_or s 4 0 → f ≡ e * 256 + get_or s 5 0 → g ≡ f * 256 + get_or s 6 0 → h ≡ g * 256 + get_or s 7 0
-    → h ≡ word_of s
+-- eight bytes, as the library puts them together
+eight_bytes : (a b c d e f g h : ℕ) → from_be_bytes w64 (a ∷ b ∷ c ∷ d ∷ e ∷ f ∷ g ∷ h ∷ []) ≡ word_of (a ∷ b ∷ c ∷ d ∷ e ∷ f ∷ g ∷ h ∷ [])
 unfolding word_of
-word_eight s {a} {b} {c} {d} {e} {f} {g} {h} l p₁ p₂ p₃ p₄ p₅ p₆ p₇ p₈ =
-    sym (word_next s 0 0 (omega arith) p₁ ∙ word_next s 1 a (omega arith) p₂ ∙ word_next s 2 b (omega arith) p₃ ∙ word_next s 3 c (omega arith) p₄
-    ∙ word_next s 4 d (omega arith) p₅ ∙ word_next s 5 e (omega arith) p₆ ∙ word_next s 6 f (omega arith) p₇ ∙ word_next s 7 g (omega arith) p₈
-    ∙ ap (word_from h) (drop_of_length-le s {i = 8} (omega arith)))
+eight_bytes a b c d e f g h = omega arith
 
--- the part that a word is read from
-pub word_part : (a : List ℕ) (p : ℕ) → word_of (take (p + 8 - p) (drop p a)) ≡ word_of (take 8 (drop p a))
-word_part a p = let e : p + 8 - p ≡ 8 = omega arith in rw e
+abbrev pub eight_of : List ℕ → List ℕ
+eight_of s = get_or s 0 0 ∷ get_or s 1 0 ∷ get_or s 2 0 ∷ get_or s 3 0 ∷ get_or s 4 0 ∷ get_or s 5 0 ∷ get_or s 6 0 ∷ get_or s 7 0 ∷ []
+
+word_eight : (s : List ℕ) → length s ≡ 8 → from_be_bytes w64 (eight_of s) ≡ word_of s
+word_eight (a ∷ b ∷ c ∷ d ∷ e ∷ f ∷ g ∷ h ∷ []) l = eight_bytes a b c d e f g h
+word_eight s l = absurd (omega arith)
 
 length_part : (n : ℕ) (a : List ℕ) (p : ℕ) → p + n ≤ length a → length (take n (drop p a)) ≡ n
 length_part n a p h = length-take-le n (drop p a) (rw (length-drop p a) (omega arith))
+
+pub word_read : (a : List ℕ) (p : ℕ) → p + 8 ≤ length a → {w : ℕ} → w ≡ from_be_bytes w64 (eight_of (take (p + 8 - p) (drop p a))) → w ≡ word_of (take 8 (drop p a))
+word_read a p h e = let d : p + 8 - p ≡ 8 = omega arith in (rw d at e) ∙ word_eight (take 8 (drop p a)) (length_part 8 a p h)
 
 second_half : (a : List ℕ) (p : ℕ) → p + 16 ≤ length a → drop 8 (name_at a p) ≡ take 8 (drop (p + 8) a)
 second_half a p h =
@@ -167,25 +164,26 @@ bytes_of a f (suc n) p h =
     rw (drop-cons a p 0 (omega arith))
     (and_both (ltb (get_or a p 0) 256) (bytes (take n (drop (suc p) a))) (lt-ltb (get_or a p 0) 256 (f p)) (bytes_of a f n (suc p) (omega arith)))
 
--- two names of 16 bytes where they lie
+-- what `then_with` answers
+pub then_is : {Q : Type 0} (o : Ordering) {r rest : Ordering} → MatchOrdering o (r ≡ Less) Q (r ≡ Greater) → (Q → r ≡ rest) → r ≡ ordering_then o rest
+then_is Less h f = h
+then_is Equal h f = f h
+then_is Greater h f = h
+
+-- two names of 16 bytes where they lie: by their first numbers, and where they are equal by the second
 module _ (a b : List ℕ) (p q : ℕ) (h : p + 16 ≤ length a) (k : q + 16 ≤ length b) where
-  -- the first numbers, and where they are equal the second
-  first_words : {x y : ℕ} {r : Comparison} → x ≡ word_of (take 8 (drop p a)) → y ≡ word_of (take 8 (drop q b)) → r ≡ first_of x y Equal
-      → compare_words (name_at a p) (name_at b q) ≡ then_by r (first_of (word_of (take 8 (drop (p + 8) a))) (word_of (take 8 (drop (q + 8) b))) Equal)
+  first_words : compare_words (name_at a p) (name_at b q)
+      ≡ ordering_then (nat_cmp (word_of (take 8 (drop p a))) (word_of (take 8 (drop q b)))) (nat_cmp (word_of (take 8 (drop (p + 8) a))) (word_of (take 8 (drop (q + 8) b))))
   unfolding compare_words
-  first_words {x} {y} {r} e f g =
-      rw (take-take 8 16 (drop p a) (omega arith), take-take 8 16 (drop q b) (omega arith), second_half a p h, second_half b q k, g, e, f)
+  first_words =
+      rw (take-take 8 16 (drop p a) (omega arith), take-take 8 16 (drop q b) (omega arith), second_half a p h, second_half b q k, first_cmp (word_of (take 8 (drop p a))) (word_of (take 8 (drop q b))), first_cmp (word_of (take 8 (drop (p + 8) a))) (word_of (take 8 (drop (q + 8) b))))
       (first_then (word_of (take 8 (drop p a))) (word_of (take 8 (drop q b))) (first_of (word_of (take 8 (drop (p + 8) a))) (word_of (take 8 (drop (q + 8) b))) Equal))
 
-  pub second_words : {x y : ℕ} {s : Comparison} → x ≡ word_of (take 8 (drop (p + 8) a)) → y ≡ word_of (take 8 (drop (q + 8) b)) → s ≡ first_of x y Equal
-      → s ≡ then_by Equal (first_of (word_of (take 8 (drop (p + 8) a))) (word_of (take 8 (drop (q + 8) b))) Equal)
-  second_words e f g = rw (g, e, f)
-
-  -- what the first numbers say is t; the answer s, in both meanings
+  -- the answer in both meanings, by what the first numbers say
   pub compared : ((i : ℕ) → get_or a i 0 < 256) → ((i : ℕ) → get_or b i 0 < 256)
-      → {x y : ℕ} {r s t : Comparison} → x ≡ word_of (take 8 (drop p a)) → y ≡ word_of (take 8 (drop q b)) → r ≡ first_of x y Equal → r ≡ t
-      → s ≡ then_by t (first_of (word_of (take 8 (drop (p + 8) a))) (word_of (take 8 (drop (q + 8) b))) Equal)
+      → {x y : ℕ} {r s : Ordering} → x ≡ word_of (take 8 (drop p a)) → y ≡ word_of (take 8 (drop q b)) → r ≡ nat_cmp x y
+      → s ≡ ordering_then r (nat_cmp (word_of (take 8 (drop (p + 8) a))) (word_of (take 8 (drop (q + 8) b))))
       → (s ≡ compare_words (name_at a p) (name_at b q)) × (s ≡ compare_names (name_at a p) (name_at b q))
-  compared f g {s = s} {t = t} ex ey er et es =
-      let w : s ≡ compare_words (name_at a p) (name_at b q) = es ∙ sym (first_words ex ey (sym et ∙ er)) in
+  compared f g {s = s} ex ey er e =
+      let w : s ≡ compare_words (name_at a p) (name_at b q) = rw (er, ex, ey) at e ∙ sym first_words in
       (w, w ∙ words_as_bytes (name_at a p) (name_at b q) (length_part 16 a p h) (length_part 16 b q k) (bytes_of a f 16 p h) (bytes_of b g 16 q k))

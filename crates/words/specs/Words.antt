@@ -2,8 +2,8 @@
 -- No rule of the book is here: `compare_names` of the model stays the meaning, and the only comparison that the rules cite.
 -- Assumes nothing.
 use Rattle.std.specs.Prelude.{◌≡◌, Bool, true, cond, List, [], ◌∷◌, ℕ, ◌+◌, ◌*◌, ◌<◌, ◌^◌, ltb, length, take, drop}
-use Rattle.model.specs.declared.Comparison.{Comparison}
-use Rattle.model.specs.declared.Comparison.TheVariants.{Smaller, Equal, Larger}
+use Rattle.std.specs.declared.cmp.Ordering.{Ordering}
+use Rattle.std.specs.declared.cmp.Ordering.TheVariants.{Less, Equal, Greater}
 use Rattle.model.specs.Tests.{all_of}
 use Rattle.model.specs.Names.{compare_names}
 
@@ -16,11 +16,11 @@ unfoldable pub word_of : List ℕ → ℕ
 word_of xs = word_from 0 xs
 
 -- two numbers, and where they are equal what follows
-abbrev pub first_of : ℕ → ℕ → Comparison → Comparison
-first_of x y rest = cond (ltb x y) Smaller (cond (ltb y x) Larger rest)
+abbrev pub first_of : ℕ → ℕ → Ordering → Ordering
+first_of x y rest = cond (ltb x y) Less (cond (ltb y x) Greater rest)
 
 -- "compare eight at a time": two names of 16 bytes as two numbers each
-unfoldable pub compare_words : List ℕ → List ℕ → Comparison
+unfoldable pub compare_words : List ℕ → List ℕ → Ordering
 compare_words x y = first_of (word_of (take 8 x)) (word_of (take 8 y)) (first_of (word_of (drop 8 x)) (word_of (drop 8 y)) Equal)
 
 abbrev pub bytes : List ℕ → Bool

@@ -1,100 +1,62 @@
 -- Laws of writing a request: the lines of an order, what its tests say, what writing answers and leaves.
 -- Assumes nothing.
+use Rattle.std.proofs.Math.Bool.{and_assoc, and-true}
 use mathlib.Core.Path.{◌≡◌, refl, sym, ap, ◌∙◌, subst}
-use mathlib.Core.Bool.{Bool, true, false, ◌&&◌, not}
-use mathlib.Core.List.{List, [], ◌∷◌, ◌++◌}
-use Prim.Native.Nat.{ℕ, zero, suc, ◌+◌, ◌≤◌, ◌<◌}
-use native.Mathlib.Nat.{suc-add}
+use mathlib.Core.Bool.{Bool, true, false, ◌&&◌}
+use mathlib.Core.List.{List, [], ◌∷◌, ◌++◌, append_assoc}
+use Prim.Native.Nat.{ℕ, ◌+◌, ◌≤◌, ◌<◌}
 use native.Mathlib.Numerals.{add-one}
 use native.Mathlib.Omega.{arith}
-use lib.Dec.{leb, ltb}
-use lib.ListN.{length, get_or, take, drop, set, drop_of_length-le}
-use lib.Seq.{sets-eq, take-length, take_all, paste, paste-suc}
-use borrow.Author.Tests.{ltb-true, ltb-false, leb-true, le-leb, lt-leb, not-true, not-false}
+use lib.Dec.{leb}
+use lib.ListN.{length, get_or, take, drop}
+use lib.Seq.{sets-eq, take-suc, take_all, drop-drop}
+use borrow.Author.Tests.{leb-true, le-leb, lt-leb}
+use Rattle.std.specs.List.{list_all}
+use Rattle.std.proofs.Common.{Ok, Err}
+use Rattle.model.specs.declared.Refused.{Refused}
 use Rattle.model.specs.declared.Line.{Line}
 use Rattle.model.specs.declared.NewOrder.{NewOrder}
 use Rattle.model.specs.declared.OrderStatus.{OrderStatus}
 use Rattle.model.specs.declared.Payment.{Payment}
-use Rattle.model.specs.declared.WriteOutcome.TheVariants as WriteCase
 use Rattle.model.specs.Names.{Who}
 use Rattle.model.specs.Tests.{all_of}
 use Rattle.model.specs.Text.{has_digits, decimal, tabbed}
-use Rattle.model.specs.Request.{Request, new_order, payment, order_status, lines_of, line_at}
-use Rattle.model.specs.RequestLine.{has_who, line_small, has_form, line_fields, line_of, refused1, write_fault, write_answer, write_buffer}
-use Rattle.model.proofs.Zipped.{rest_cons}
+use Rattle.model.specs.Request.{Request, new_order, payment, order_status}
+use Rattle.model.specs.RequestLine.{has_who, line_small, has_form, line_fields, line_of, write_fault, write_answer, write_buffer}
 use Rattle.model.proofs.TestLaws.{every-each}
 use Rattle.text.specs.Writing.{Wrote}
 use Rattle.text.proofs.Putting.{fields_then, front}
 use Rattle.writing.specs.Writing.{Written}
 
 -- ── the lines of an order ──
-pub count_is : (is ss qs : List ℕ) (n : ℕ) → n ≤ length is → n ≤ length ss → n ≤ length qs → (n < length is → n < length ss → n < length qs → ⊥) → n ≡ length (lines_of is ss qs)
-unfolding lines_of
-count_is [] ss qs n a b c h = omega arith
-count_is (i ∷ is) [] qs n a b c h = omega arith
-count_is (i ∷ is) (s ∷ ss) [] n a b c h = omega arith
-count_is (i ∷ is) (s ∷ ss) (q ∷ qs) zero a b c h = absurd (h (omega arith) (omega arith) (omega arith))
-count_is (i ∷ is) (s ∷ ss) (q ∷ qs) (suc n) a b c h =
-    ap suc (count_is is ss qs n (omega arith) (omega arith) (omega arith) (λ x y z. h (omega arith) (omega arith) (omega arith)))
-
-take-lines : (ls : List Line) (l : Line) (rest : List Line) (i : ℕ) → drop i ls ≡ l ∷ rest → take (i + 1) ls ≡ take i ls ++ (l ∷ [])
-take-lines [] l rest zero e = absurd (let y : ◌≡◌ {A = ℕ} 0 (suc (length rest)) = ap length e in omega arith)
-take-lines [] l rest (suc i) e = absurd (let y : ◌≡◌ {A = ℕ} 0 (suc (length rest)) = ap length e in omega arith)
-take-lines (x ∷ ls) l rest zero e = let h : x ≡ l = cc in rw h
-take-lines (x ∷ ls) l rest (suc i) e = rw (suc-add i 1) (ap (λ (k : List Line). x ∷ k) (take-lines ls l rest i e))
-
 fields_append : (xs ys : List Line) → line_fields (xs ++ ys) ≡ line_fields xs ++ line_fields ys
 fields_append [] ys = refl
 fields_append (x ∷ xs) ys = ap (λ (k : List (List ℕ)). decimal x.item ∷ decimal x.supply ∷ decimal x.quantity ∷ k) (fields_append xs ys)
 
-module _ (is ss qs : List ℕ) (i : ℕ) (h : i < length (lines_of is ss qs)) where
-  -- the fields of one line more
-  pub fields-more : line_fields (take (i + 1) (lines_of is ss qs)) ≡ line_fields (take i (lines_of is ss qs)) ++ line_fields (line_at is ss qs i ∷ [])
-  fields-more =
-      ap line_fields (take-lines (lines_of is ss qs) (line_at is ss qs i) (drop (i + 1) (lines_of is ss qs)) i (rest_cons is ss qs i h))
-      ∙ fields_append (take i (lines_of is ss qs)) (line_at is ss qs i ∷ [])
+-- one line more
+pub put_more : (lines : List Line) (d : Line) (l m k : List ℕ) (at p q i : ℕ) → i < length lines → Wrote l m at p (tabbed (line_fields (take i lines)))
+    → Wrote m k p q (tabbed (line_fields (get_or lines i d ∷ []))) → Wrote l k at q (tabbed (line_fields (take (i + 1) lines)))
+put_more lines d l m k at p q i h a b =
+    let e : line_fields (take (i + 1) lines) ≡ line_fields (take i lines) ++ line_fields (get_or lines i d ∷ []) =
+    ap (λ j. line_fields (take j lines)) (add-one i) ∙ ap line_fields (take-suc lines i d h) ∙ fields_append (take i lines) (get_or lines i d ∷ []) in
+    subst (λ (fs : List (List ℕ)). Wrote l k at q (tabbed fs)) (sym e) (fields_then l m k at p q (line_fields (take i lines)) (line_fields (get_or lines i d ∷ [])) a b)
 
-  pub smalls_step : all_of line_small (drop i (lines_of is ss qs)) ≡ (line_small (line_at is ss qs i) && all_of line_small (drop (i + 1) (lines_of is ss qs)))
-  smalls_step = ap (all_of line_small) (rest_cons is ss qs i h)
-
-pub smalls_end : (is ss qs : List ℕ) (i : ℕ) → length (lines_of is ss qs) ≤ i → all_of line_small (drop i (lines_of is ss qs)) ≡ true
-smalls_end is ss qs i h = ap (all_of line_small) (drop_of_length-le (lines_of is ss qs) h)
-
-pub fields-all : (is ss qs : List ℕ) (i : ℕ) → length (lines_of is ss qs) ≤ i → line_fields (take i (lines_of is ss qs)) ≡ line_fields (lines_of is ss qs)
-fields-all is ss qs i h = ap line_fields (take_all i (lines_of is ss qs) h)
-
--- ── turns of the loops ──
-pub copy_step : (d : List ℕ) (at : ℕ) (s b : List ℕ) (i : ℕ) → at + i < length d → i < length s → b ≡ paste d at s i → set b (at + i) (get_or s i 0) ≡ paste d at s (i + 1)
-copy_step d at s b i h k e = rw (e, add-one i) (paste-suc d at s i 0 h k)
-
--- the smaller of the smaller of two and a third
-pub least : (a b c m n : ℕ) → n ≤ m → (m < a → m < b → ⊥) → (n < m → n < c → ⊥) → n < a → n < b → n < c → ⊥
-least a b c m n h f g x y z = go (ltb n m) refl
-  where
-    go : (t : Bool) → ltb n m ≡ t → ⊥
-    go true q = g (ltb-true n m q) z
-    go false q = f (omega (arith, ltb-false n m q)) (omega (arith, ltb-false n m q))
-
-module _ (is ss qs : List ℕ) (i : ℕ) {t : Bool} (h : i < length (lines_of is ss qs)) (e : all_of line_small (lines_of is ss qs) ≡ all_of line_small (drop i (lines_of is ss qs))) (q : t ≡ line_small (line_at is ss qs i)) where
-  pub small_stop : not t ≡ true → false ≡ all_of line_small (lines_of is ss qs)
-  small_stop k = sym (e ∙ smalls_step is ss qs i h ∙ ap (λ (b : Bool). b && all_of line_small (drop (i + 1) (lines_of is ss qs))) (sym q ∙ not-true t k))
-
-  pub small_again : not t ≡ false → all_of line_small (lines_of is ss qs) ≡ all_of line_small (drop (i + 1) (lines_of is ss qs))
-  small_again k = e ∙ smalls_step is ss qs i h ∙ ap (λ (b : Bool). b && all_of line_small (drop (i + 1) (lines_of is ss qs))) (sym q ∙ not-false t k)
+pub put_all : (lines : List Line) (l m : List ℕ) (at p i : ℕ) → length lines ≤ i → Wrote l m at p (tabbed (line_fields (take i lines))) → Wrote l m at p (tabbed (line_fields lines))
+put_all lines l m at p i h a = subst (λ (ls : List Line). Wrote l m at p (tabbed (line_fields ls))) (take_all i lines h) a
 
 -- a name, by its copy
-pub copied : (d : List ℕ) (at : ℕ) (f : List ℕ) → at + length f ≤ length d → Wrote d (paste d at f (length f)) at (at + length f) f
-copied d at f h = record { same = ap (λ (g : List ℕ). take at d ++ g ++ drop (at + length f) d) (take-length f) ∙ sym (sets-eq f d at h); place = refl }
+pub copied : (d : List ℕ) (at : ℕ) (f ys : List ℕ) (k : ℕ) → ys ≡ f → k ≡ length f → at + length f ≤ length d → Wrote d (take at d ++ (ys ++ drop k (drop at d))) at (at + length f) f
+copied d at f ys k e l h =
+    record { same = rw (e, l, drop-drop (length f) at d) (sym (sets-eq f d at h ∙ append_assoc (take at d) f (drop (at + length f) d))); place = refl }
 
--- one line of an order more
-pub put_more : (is ss qs l m k : List ℕ) (at p q i : ℕ) → i < length (lines_of is ss qs) → Wrote l m at p (tabbed (line_fields (take i (lines_of is ss qs))))
-    → Wrote m k p q (tabbed (decimal (get_or is i 0) ∷ decimal (get_or ss i 0) ∷ decimal (get_or qs i 0) ∷ [])) → Wrote l k at q (tabbed (line_fields (take (i + 1) (lines_of is ss qs))))
-put_more is ss qs l m k at p q i h a b =
-    subst (λ (fs : List (List ℕ)). Wrote l k at q (tabbed fs)) (sym (fields-more is ss qs i h)) (fields_then l m k at p q (line_fields (take i (lines_of is ss qs))) (line_fields (line_at is ss qs i ∷ [])) a b)
+-- ── tests ──
+pub all_is : {A : Type 0} (f : A → Bool) (xs : List A) → list_all f xs ≡ all_of f xs
+all_is f [] = refl
+all_is f (x ∷ xs) = ap (λ t. f x && t) (all_is f xs)
 
-pub put_all : (is ss qs l m : List ℕ) (at p i : ℕ) → length (lines_of is ss qs) ≤ i → Wrote l m at p (tabbed (line_fields (take i (lines_of is ss qs))))
-    → Wrote l m at p (tabbed (line_fields (lines_of is ss qs)))
-put_all is ss qs l m at p i h a = subst (λ (fs : List (List ℕ)). Wrote l m at p (tabbed fs)) (fields-all is ss qs i h) a
+pub lines-small : (ls : List Line) → list_all (λ l. all_of has_digits (l.item ∷ l.supply ∷ l.quantity ∷ [])) ls ≡ all_of line_small ls
+lines-small [] = refl
+lines-small (l ∷ ls) = rw (lines-small ls) (simp (and_assoc, and-true))
 
 -- ── what a form's tests say of lines and who ──
 pub order-few : (q : NewOrder) (lines : List Line) → has_form (new_order q lines) ≡ true → length lines ≤ 15
@@ -113,21 +75,20 @@ unfolding has_form
 status_who q who e = (every-each (has_digits q.warehouse ∷ has_digits q.district ∷ has_who who ∷ []) e).1.1.0
 
 -- ── what writing answers and leaves ──
-pub unwritten : (b : List ℕ) (r : Request) → has_form r ≡ false → Written b b (WriteCase.Refused refused1) r
+pub unwritten : (b : List ℕ) (r : Request) → has_form r ≡ false → Written b b (Err Refused.NoForm) r
 unfolding write_answer write_buffer write_fault
 unwritten b r e = record { says = rw e; leaves = rw e }
 
 module _ (b o l : List ℕ) (n : ℕ) (r : Request) (e : has_form r ≡ true) (w : Wrote o l 0 n (line_of r)) where
-  pub too_short : length b < n → Written b b (WriteCase.Refused refused1) r
+  pub too_short : length b < n → Written b b (Err Refused.NoForm) r
   unfolding write_answer write_buffer write_fault
   too_short h =
       let k : leb (length (line_of r)) (length b) ≡ false = lt-leb (length (line_of r)) (length b) (omega (arith, h, w.place)) in
       record { says = rw (e, k); leaves = rw (e, k) }
 
-  pub written : n ≤ length o → n ≤ length b → Written b (paste b 0 l n) (WriteCase.Written n) r
+  pub written : n ≤ length o → n ≤ length b → Written b (take n l ++ drop n b) (Ok n) r
   unfolding write_answer write_buffer write_fault
   written g h =
       let k : leb (length (line_of r)) (length b) ≡ true = le-leb (length (line_of r)) (length b) (omega (arith, w.place)) in
-      let z : 0 + n ≡ n = omega arith in
       let m : n ≡ length (line_of r) = omega (arith, w.place) in
-      record { says = rw (e, k, ← m); leaves = rw (e, k, z, front o l (line_of r) n w (omega (arith, g, m)), ← m) }
+      record { says = rw (e, k, ← m); leaves = rw (e, k, front o l (line_of r) n w (omega (arith, g, m)), ← m) }

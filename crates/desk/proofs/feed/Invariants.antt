@@ -1,12 +1,10 @@
-use lib.ListN.{length, take}
-use Rattle.model.specs.Request.{lent}
+-- `feed`: the lines that the block so far ends are answered.
+use Rattle.std.proofs.Common.{◌-◌, length, take}
 use Rattle.desk.proofs.Blocks.{FedUpTo}
-use Prim.Native.Nat.{◌-◌}
-use mathlib.Core.Path.{◌≡◌}
 use Rattle.desk.proofs.feed.Given as goal
 
-abbrev pub invariant-loop-out : goal.invariant-loop-out
-invariant-loop-out g l = (length l.b ≡ length l.initial.b) × ((length l.last ≡ length l.initial.last) × ((length l.notes ≡ length l.initial.notes) × ((length l.out ≡ 2048) × FedUpTo (lent l.initial.b l.names l.initial.last l.initial.notes l.topup) (take l.len l.initial.line) l.block (lent l.b l.names l.last l.notes l.topup) l.line l.n l.at)))
+abbrev pub invariant-loop-len : goal.invariant-loop-len
+invariant-loop-len g l = FedUpTo l.initial.s (take l.len l.initial.line) l.block l.s l.line l.so_far l.at
 
-abbrev pub decreases-loop-out : goal.decreases-loop-out
-decreases-loop-out g l = length l.block - l.at
+abbrev pub decreases-loop-len : goal.decreases-loop-len
+decreases-loop-len g l = length l.block - l.at

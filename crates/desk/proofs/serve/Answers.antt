@@ -1,32 +1,24 @@
-use Rattle.desk.proofs.Telling.{written_part}
-use Rattle.desk.proofs.Blocks.{left-line, none-served, block_served, input-served, last-served}
-use borrow.Author.Rules.{rules}
+use Rattle.std.proofs.Common.{rules}
+use Rattle.desk.proofs.Blocks.{none-served, block_served, part-served, input-served, last-served}
 use Rattle.desk.proofs.serve.Goals as goal
 
-pub loop-turns-init : goal.loop-turns-init
-loop-turns-init g c =
-    (search rules, (search rules, (search rules, (search rules, none-served _ _ (search rules)))))
+pub loop-init : goal.loop-init
+loop-init g c = (search rules, none-served _ _ (search rules))
 
-pub returns-then-got : goal.returns-then-got
-returns-then-got g c = input-served _ _ _ _ c.loop-turns.invariant.1.1.1.1
+pub returns-in_err-n : goal.returns-in_err-n
+returns-in_err-n g c = input-served _ _ _ _ c.loop.invariant.1
 
-pub slice_bounds-put-end : goal.slice_bounds-put-end
-slice_bounds-put-end g c = written_part _ _ _ _ _ _ c.step-m.ensures
+pub returns-in_err-len : goal.returns-in_err-len
+returns-in_err-len g c = part-served _ _ _ _ _ _ _ c.loop.invariant.1 _ c.in_err-len.ensures
 
 pub returns-then-len-gt0 : goal.returns-then-len-gt0
-returns-then-len-gt0 g c =
-    last-served _ _ _ _ c.loop-turns.invariant.1.1.1.1 _ (left-line _ _ c.loop-turns.line _ _ c.loop-turns.len _ (search rules) c.step-m.ensures)
+returns-then-len-gt0 g c = last-served _ _ _ _ c.loop.invariant.1 _ c.answer.ensures
 
-pub returns-then-n-eq0 : goal.returns-then-n-eq0
-returns-then-n-eq0 g c = input-served _ _ _ _ c.loop-turns.invariant.1.1.1.1
+pub returns-else-len-gt0 : goal.returns-else-len-gt0
+returns-else-len-gt0 g c = input-served _ _ _ _ c.loop.invariant.1
 
-pub returns-else-fed : goal.returns-else-fed
-returns-else-fed g c =
-    input-served _ _ _ _ (block_served _ _ _ _ _ _ _ _ _ _ c.loop-turns.invariant.1.1.1.1 c.feed-fed.ensures (search rules))
-
-pub loop-turns-preserved : goal.loop-turns-preserved
-loop-turns-preserved g c =
-    (search rules, (search rules, (search rules, (search rules, block_served _ _ _ _ _ _ _ _ _ _ c.loop-turns.invariant.1.1.1.1 c.feed-fed.ensures (search rules)))))
+pub loop-preserved : goal.loop-preserved
+loop-preserved g c = (search rules, block_served _ _ _ _ _ _ _ c.loop.invariant.1 _ c.in_ok-len.ensures (search rules))
 
 pub returns : goal.returns
-returns g c = input-served _ _ _ _ c.loop-turns.invariant.1.1.1.1
+returns g c = input-served _ _ _ _ c.loop.invariant.1

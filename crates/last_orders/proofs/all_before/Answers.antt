@@ -7,7 +7,7 @@ loop-i-init c = (search rules, none_found c.args.last.now c.args.p c.args.next (
 
 pub loop-i-preserved : goal.loop-i-preserved
 loop-i-preserved c =
-    (search rules, found-step c.args.last.now c.args.p c.args.next (c.args.n / 2) c.loop-i.low c.loop-i.high c.loop-i.i c.bits-x.result c.bits-y.result c.requires.1.0 c.requires.1.1 c.bits-x.ensures c.bits-y.ensures c.wrapping_add_u64.ensures.value c.wrapping_add_u64-in-loop-i.ensures.value c.loop-i.invariant.1)
+    (search rules, found-step c.args.last.now c.args.p c.args.next (c.args.n / 2) c.loop-i.low c.loop-i.high c.loop-i.i c.bits-x.result c.bits-y.result c.requires.1.0 c.requires.1.1 c.bits-x.ensures c.bits-y.ensures refl refl c.loop-i.invariant.1)
 
 pub returns : goal.returns
 returns c =

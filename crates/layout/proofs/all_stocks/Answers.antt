@@ -1,12 +1,7 @@
-use native.Mathlib.Omega.{arith}
 use mathlib.Core.Path.{refl}
 use Rattle.layout.specs.Layout.{all_stocks}
 use Rattle.layout.proofs.Bounds.{stocks_max}
 use Rattle.layout.proofs.all_stocks.Goals as goal
-
-pub overflow_mul-result : goal.overflow_mul-result
-unfolding all_stocks
-overflow_mul-result c = omega (arith, stocks_max _ c.requires)
 
 pub returns : goal.returns
 unfolding all_stocks

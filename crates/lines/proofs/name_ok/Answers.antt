@@ -1,23 +1,15 @@
-use borrow.Author.Rules.{rules}
-use Prim.Native.Nat.{◌<◌}
-use lib.ListN.{length}
-use Rattle.lines.proofs.Whos.{name-none, printable_step, name_end, name-empty, name-long}
+use Rattle.std.proofs.Common.{rules, tests, arith, ◌≤◌, length, ◌&&◌, leb}
+use Rattle.std.proofs.lemmas.Bool.Decides.{nat_tests}
+use Rattle.std.proofs.lemmas.Iterator.{YieldsList-from_slice}
+use Rattle.std.proofs.lemmas.Iterator.Search.{all_from_yields_List}
+use Rattle.lines.proofs.Names.{name-long, name_is}
 use Rattle.lines.proofs.name_ok.Goals as goal
 
-pub returns-then-n-lt1 : goal.returns-then-n-lt1
-returns-then-n-lt1 c = name-empty _ c.if-n-lt1.true
-
-pub returns-then-n-gt16 : goal.returns-then-n-gt16
-returns-then-n-gt16 c = name-long _ c.if-n-lt1.false c.if-n-gt16.true
-
-pub loop-i-init : goal.loop-i-init
-loop-i-init c = (search rules, (search rules, (search rules, (search rules, name-none c.args.f.now))))
-
-pub loop-i-preserved : goal.loop-i-preserved
-loop-i-preserved c =
-    let h : c.loop-i.i < length c.args.f.now = search rules in
-    (search rules, (search rules, (search rules, (search rules, printable_step _ _ h c.loop-i.invariant.1.1.1.1 c.byte_ok-ok.ensures))))
+pub returns-then-n : goal.returns-then-n
+returns-then-n c = name-long _ c.if-n.true
 
 pub returns : goal.returns
 returns c =
-    name_end _ _ _ c.loop-i.invariant.0 c.loop-i-test.false c.loop-i.invariant.1.0 c.loop-i.invariant.1.1.0 c.loop-i.invariant.1.1.1.0 c.loop-i.invariant.1.1.1.1
+    let low : 1 ≤ length c.args.f.now = grind (arith, nat_tests) in
+    let high : length c.args.f.now ≤ 16 = grind (arith, nat_tests) in
+    name_is _ _ low high (all_from_yields_List (λ x. leb 32 x && leb x 126) _ _ c.all.result c.all.ensures.ran (YieldsList-from_slice c.args.f.now c.iter.ensures.rest) (λ x b q k. search (rules, tests)))

@@ -1,28 +1,27 @@
-use borrow.Author.Rules.{rules}
-use mathlib.Core.Path.{subst}
-use Prim.Native.Nat.{◌<◌}
-use native.Mathlib.Omega.{arith}
-use lib.ListN.{length-set}
-use Rattle.text.specs.declared.Step.{Step}
-use Rattle.text.specs.Fields.{StepSays}
-use Rattle.lines.proofs.Walk.{run-start, run_step}
+use Rattle.std.proofs.Common.{arith, [], ◌∷◌, sym, subst, ◌∙◌}
+use lib.ListN.{length-set, length-replicate}
+use Rattle.lines.specs.Fields.{NumbersSay}
+use Rattle.lines.proofs.Walk.{run-start, run_step, run_stop, run_end}
 use Rattle.lines.proofs.numbers_at.Goals as goal
 
-pub loop-count-init : goal.loop-count-init
-loop-count-init c = (run-start _ _ c.requires.0, (search rules, search rules))
+pub loop-i-init : goal.loop-i-init
+loop-i-init g c = record { long = length-replicate g.row.N 0; run = run-start c.args.s.now (0 ∷ []) c.args.at c.requires }
 
 pub number_at-requires : goal.number_at-requires
-number_at-requires c = c.loop-count.invariant.0.within
+number_at-requires g c = c.loop-i.invariant.run.within
 
-pub returns-in_default : goal.returns-in_default
-returns-in_default c =
-    (c.loop-count.invariant.0, (c.loop-count.invariant.1.0, λ h. subst (λ (r : Step). StepSays c.args.s.now c.loop-count.next r) c.in_default.is c.number_at.ensures))
+pub returns-in_err-value : goal.returns-in_err-value
+returns-in_err-value g c =
+    let n = rw c.in_err-value.was at c.number_at.ensures in
+    subst (NumbersSay g.row.N c.args.s.now c.args.at) (sym c.from_residual.ensures) (run_stop _ _ _ _ _ _ c.loop-i.invariant.run c.loop-i-test.true n)
 
-pub loop-count-preserved : goal.loop-count-preserved
-loop-count-preserved c =
-    let h : c.loop-count.count < 49 = omega (arith, c.loop-count-test.true, c.requires.1) in
-    (run_step _ _ _ _ _ _ _ c.loop-count.invariant.0 (subst (λ (r : Step). StepSays c.args.s.now c.loop-count.next r) c.in-Value.is c.number_at.ensures) h, (search rules, simp length-set (search rules)))
+pub loop-i-preserved : goal.loop-i-preserved
+loop-i-preserved g c =
+    let n = rw c.in_ok-value.was at c.number_at.ensures in
+    record {
+      long = length-set c.loop-i.values c.loop-i.i c.in_ok-value.value ∙ c.loop-i.invariant.long;
+      run = run_step _ _ _ _ _ _ _ c.loop-i.invariant.run n (omega (arith, c.loop-i-test.true, c.loop-i.invariant.long));
+    }
 
 pub returns : goal.returns
-returns c =
-    (c.loop-count.invariant.0, (c.loop-count.invariant.1.0, λ h. absurd (omega (arith, h, c.loop-count-test.false))))
+returns g c = run_end _ _ _ _ _ _ c.loop-i.auto.i-end c.loop-i-test.false c.loop-i.invariant.long c.loop-i.invariant.run

@@ -1,11 +1,7 @@
 use mathlib.Core.Path.{◌≡◌}
-use Prim.Native.Nat.{◌≤◌, ◌-◌}
-use lib.ListN.{length}
+use lib.ListN.{length, take}
 use Rattle.lines.specs.Fields.{Run}
 use Rattle.lines.proofs.numbers_at.Given as goal
 
-abbrev pub invariant-loop-count : goal.invariant-loop-count
-invariant-loop-count l = Run l.s l.at l.count l.next l.values × ((l.count ≤ l.k) × (length l.values ≡ 49))
-
-abbrev pub decreases-loop-count : goal.decreases-loop-count
-decreases-loop-count l = l.k - l.count
+abbrev pub invariant-loop-i : goal.invariant-loop-i
+invariant-loop-i g l = record { long : length l.values ≡ g.row.N; run : Run l.i l.s l.at l.next (take l.i l.values) }

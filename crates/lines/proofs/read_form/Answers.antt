@@ -1,31 +1,27 @@
+use Rattle.std.proofs.Common.{arith, ◌∙◌}
 use Rattle.model.specs.RequestLine.{read_fields}
-use borrow.Author.Tests.{eq-eqb, ne_eqb}
+use Rattle.lines.proofs.Names.{letter-not}
 use Rattle.lines.proofs.read_form.Goals as goal
 
-pub returns-then-x-eq78 : goal.returns-then-x-eq78
+pub returns-in-78-clause-read : goal.returns-in-78-clause-read
 unfolding read_fields
-returns-then-x-eq78 c = rw (eq-eqb _ _ c.if-x-eq78.true) c.read_new_order.ensures
+returns-in-78-clause-read c = rw c.in-78.is c.read_new_order.ensures.read
 
-pub returns-then-x-eq80 : goal.returns-then-x-eq80
+pub returns-in-80-clause-read : goal.returns-in-80-clause-read
 unfolding read_fields
-returns-then-x-eq80 c = rw (ne_eqb _ _ c.if-x-eq78.false, eq-eqb _ _ c.if-x-eq80.true) c.read_payment.ensures
+returns-in-80-clause-read c = rw c.in-80.is (c.alone.ensures.read ∙ c.read_payment.ensures)
 
-pub returns-then-x-eq68 : goal.returns-then-x-eq68
+pub returns-in-68-clause-read : goal.returns-in-68-clause-read
 unfolding read_fields
-returns-then-x-eq68 c =
-    rw (ne_eqb _ _ c.if-x-eq78.false, ne_eqb _ _ c.if-x-eq80.false, eq-eqb _ _ c.if-x-eq68.true) c.read_delivery.ensures
+returns-in-68-clause-read c = rw c.in-68.is (c.alone-in-68.ensures.read ∙ c.read_delivery.ensures)
 
-pub returns-then-x-eq83 : goal.returns-then-x-eq83
+pub returns-in-83-clause-read : goal.returns-in-83-clause-read
 unfolding read_fields
-returns-then-x-eq83 c =
-    rw (ne_eqb _ _ c.if-x-eq78.false, ne_eqb _ _ c.if-x-eq80.false, ne_eqb _ _ c.if-x-eq68.false, eq-eqb _ _ c.if-x-eq83.true) c.read_order_status.ensures
+returns-in-83-clause-read c = rw c.in-83.is (c.alone-in-83.ensures.read ∙ c.read_order_status.ensures)
 
-pub returns-then-x-eq76 : goal.returns-then-x-eq76
+pub returns-in-76-clause-read : goal.returns-in-76-clause-read
 unfolding read_fields
-returns-then-x-eq76 c =
-    rw (ne_eqb _ _ c.if-x-eq78.false, ne_eqb _ _ c.if-x-eq80.false, ne_eqb _ _ c.if-x-eq68.false, ne_eqb _ _ c.if-x-eq83.false, eq-eqb _ _ c.if-x-eq76.true) c.read_stock_level.ensures
+returns-in-76-clause-read c = rw c.in-76.is (c.alone-in-76.ensures.read ∙ c.read_stock_level.ensures)
 
-pub returns : goal.returns
-unfolding read_fields
-returns c =
-    rw (ne_eqb _ _ c.if-x-eq78.false, ne_eqb _ _ c.if-x-eq80.false, ne_eqb _ _ c.if-x-eq68.false, ne_eqb _ _ c.if-x-eq83.false, ne_eqb _ _ c.if-x-eq76.false) c.no_form.ensures
+pub returns-in_default-clause-read : goal.returns-in_default-clause-read
+returns-in_default-clause-read c = letter-not _ _ (λ q. omega arith) (λ q. omega arith) (λ q. omega arith) (λ q. omega arith) (λ q. omega arith)

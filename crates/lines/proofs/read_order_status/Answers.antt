@@ -1,22 +1,26 @@
-use mathlib.Core.Path.{sym, ◌∙◌, ap}
-use native.Mathlib.Nat.{le_antisymm}
-use Rattle.model.specs.RequestLine.{stored}
-use Rattle.lines.proofs.Whos.{who-found, who_lost}
-use Rattle.lines.proofs.WhoForms.{status_few, status_nobody, status_left, status_is}
+use Rattle.std.proofs.Common.{ap, ◌∙◌}
+use Rattle.lines.specs.Fields.{form_read}
+use Rattle.lines.proofs.Walk.{some_left, none_left}
+use Rattle.lines.proofs.Forms.{status-few, status-nobody, status-left, status-is}
 use Rattle.lines.proofs.read_order_status.Goals as goal
 
-pub returns-then-n-lt2 : goal.returns-then-n-lt2
-returns-then-n-lt2 c =
-    c.no_form.ensures ∙ ap stored (sym (status_few _ _ _ _ c.numbers_at-n.ensures.0 c.if-n-lt2.true (c.numbers_at-n.ensures.1.1 c.if-n-lt2.true)))
+pub returns-in_err-warehouse : goal.returns-in_err-warehouse
+returns-in_err-warehouse c =
+    ap form_read c.from_residual.ensures ∙ status-few _ (rw c.in_err-warehouse.was at c.numbers_at.ensures)
 
-pub returns-then-not-w : goal.returns-then-not-w
-returns-then-not-w c =
-    c.no_form-then-not-w.ensures ∙ ap stored (sym (status_nobody _ _ _ _ c.numbers_at-n.ensures.0 (le_antisymm c.numbers_at-n.ensures.1.0 c.if-n-lt2.false) (who_lost _ _ c.who_at-w.result c.if-not-w.true c.who_at-w.ensures)))
+pub returns-in_err-who : goal.returns-in_err-who
+returns-in_err-who c =
+    let r = rw c.in_ok-warehouse.was at c.numbers_at.ensures in
+    ap form_read c.from_residual-in_err-who.ensures ∙ status-nobody _ _ r.rest (rw c.in_err-who.was at c.who_at.ensures)
 
-pub returns-then-w-s : goal.returns-then-w-s
-returns-then-w-s c =
-    c.no_form-then-w-s.ensures ∙ ap stored (sym (status_left _ _ _ _ c.numbers_at-n.ensures.0 _ _ _ (who-found _ _ c.who_at-w.result c.if-not-w.false c.who_at-w.ensures) (le_antisymm c.numbers_at-n.ensures.1.0 c.if-n-lt2.false) c.if-w-s.true))
+pub returns-then-after-s : goal.returns-then-after-s
+returns-then-after-s c =
+    let r = rw c.in_ok-warehouse.was at c.numbers_at.ensures in
+    let w = rw c.in_ok-who.was at c.who_at.ensures in
+    status-left _ _ r.rest _ w.rest (some_left _ _ c.if-after-s.true)
 
 pub returns : goal.returns
 returns c =
-    rw c.no_lines-lines.ensures (sym (status_is _ _ _ _ c.numbers_at-n.ensures.0 _ _ _ (who-found _ _ c.who_at-w.result c.if-not-w.false c.who_at-w.ensures) (le_antisymm c.numbers_at-n.ensures.1.0 c.if-n-lt2.false) c.if-w-s.false))
+    let r = rw c.in_ok-warehouse.was at c.numbers_at.ensures in
+    let w = rw c.in_ok-who.was at c.who_at.ensures in
+    status-is _ _ r.rest _ w.rest _ _ r.numbers r.same w.there w.choice (none_left _ _ c.if-after-s.false)

@@ -1,31 +1,27 @@
-use borrow.Author.Rules.{rules}
-use mathlib.Core.Path.{sym, ◌∙◌, ap}
-use native.Mathlib.Nat.{le_antisymm}
-use Rattle.model.specs.RequestLine.{stored}
-use Rattle.lines.proofs.Whos.{who-found, who_lost}
-use Rattle.lines.proofs.WhoForms.{payment-few, payment-nobody, payment-short, payment-left, payment-is}
+use Rattle.std.proofs.Common.{sym, ap, ◌∙◌}
+use Rattle.lines.specs.Fields.{form_read}
+use Rattle.lines.proofs.Walk.{if_none, if_some}
+use Rattle.lines.proofs.Forms.{pay-few, pay-nobody, pay-short, pay-is}
 use Rattle.lines.proofs.read_payment.Goals as goal
 
-pub returns-then-n-lt4 : goal.returns-then-n-lt4
-returns-then-n-lt4 c =
-    c.no_form.ensures ∙ ap stored (sym (payment-few _ _ _ _ c.numbers_at-n.ensures.0 c.if-n-lt4.true (c.numbers_at-n.ensures.1.1 c.if-n-lt4.true)))
+pub returns-in_err-warehouse : goal.returns-in_err-warehouse
+returns-in_err-warehouse c =
+    ap form_read c.from_residual.ensures ∙ pay-few _ (rw c.in_err-warehouse.was at c.numbers_at.ensures)
 
-pub returns-then-not-w : goal.returns-then-not-w
-returns-then-not-w c =
-    c.no_form-then-not-w.ensures ∙ ap stored (sym (payment-nobody _ _ _ _ c.numbers_at-n.ensures.0 (le_antisymm c.numbers_at-n.ensures.1.0 c.if-n-lt4.false) (who_lost _ _ c.who_at-w.result c.if-not-w.true c.who_at-w.ensures)))
+pub returns-in_err-who : goal.returns-in_err-who
+returns-in_err-who c =
+    let r = rw c.in_ok-warehouse.was at c.numbers_at.ensures in
+    ap form_read c.from_residual-in_err-who.ensures ∙ pay-nobody _ _ r.rest (rw c.in_err-who.was at c.who_at.ensures)
 
-pub numbers_at-m-requires : goal.numbers_at-m-requires
-numbers_at-m-requires c =
-    ((who-found _ _ c.who_at-w.result c.if-not-w.false c.who_at-w.ensures).within, search rules)
-
-pub returns-then-m-lt2 : goal.returns-then-m-lt2
-returns-then-m-lt2 c =
-    c.no_form-then-m-lt2.ensures ∙ ap stored (sym (payment-short _ _ _ _ c.numbers_at-n.ensures.0 _ _ _ (who-found _ _ c.who_at-w.result c.if-not-w.false c.who_at-w.ensures) _ _ _ c.numbers_at-m.ensures.0 (le_antisymm c.numbers_at-n.ensures.1.0 c.if-n-lt4.false) c.if-m-lt2.true (c.numbers_at-m.ensures.1.1 c.if-m-lt2.true)))
-
-pub returns-then-m-s : goal.returns-then-m-s
-returns-then-m-s c =
-    c.no_form-then-m-s.ensures ∙ ap stored (sym (payment-left _ _ _ _ c.numbers_at-n.ensures.0 _ _ _ (who-found _ _ c.who_at-w.result c.if-not-w.false c.who_at-w.ensures) _ _ _ c.numbers_at-m.ensures.0 (le_antisymm c.numbers_at-n.ensures.1.0 c.if-n-lt4.false) (le_antisymm c.numbers_at-m.ensures.1.0 c.if-m-lt2.false) c.if-m-s.true))
+pub returns-in_err-date : goal.returns-in_err-date
+returns-in_err-date c =
+    let r = rw c.in_ok-warehouse.was at c.numbers_at.ensures in
+    let w = rw c.in_ok-who.was at c.who_at.ensures in
+    ap form_read c.from_residual-in_err-date.ensures ∙ pay-short _ _ r.rest _ w.rest (if_none _ _ (sym c.in_err-date.was ∙ c.last_numbers.ensures))
 
 pub returns : goal.returns
 returns c =
-    rw c.no_lines-lines.ensures (sym (payment-is _ _ _ _ c.numbers_at-n.ensures.0 _ _ _ (who-found _ _ c.who_at-w.result c.if-not-w.false c.who_at-w.ensures) _ _ _ c.numbers_at-m.ensures.0 (le_antisymm c.numbers_at-n.ensures.1.0 c.if-n-lt4.false) (le_antisymm c.numbers_at-m.ensures.1.0 c.if-m-lt2.false) c.if-m-s.false))
+    let r = rw c.in_ok-warehouse.was at c.numbers_at.ensures in
+    let w = rw c.in_ok-who.was at c.who_at.ensures in
+    let l = if_some _ _ _ (sym c.in_ok-date.was ∙ c.last_numbers.ensures) in
+    pay-is _ _ r.rest _ w.rest _ _ _ r.numbers r.same w.there w.choice l.0 l.1

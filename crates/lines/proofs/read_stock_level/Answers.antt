@@ -1,17 +1,12 @@
-use mathlib.Core.Path.{sym, ◌∙◌, ap}
-use Rattle.model.specs.RequestLine.{stored}
-use Rattle.lines.proofs.Forms.{stock-left, stock-not, stock-is}
+use Rattle.std.proofs.Common.{sym, ap, ◌∙◌}
+use Rattle.lines.specs.Fields.{form_read}
+use Rattle.lines.proofs.Walk.{if_none, if_some}
+use Rattle.lines.proofs.Forms.{stock-not, stock-is}
 use Rattle.lines.proofs.read_stock_level.Goals as goal
 
-pub returns-then-n-s : goal.returns-then-n-s
-returns-then-n-s c =
-    c.no_form.ensures ∙ ap stored (sym (stock-left _ _ _ _ c.numbers_at-n.ensures.0 c.numbers_at-n.ensures.1.1 c.if-n-s.true))
-
-pub returns-then-n-ne3 : goal.returns-then-n-ne3
-returns-then-n-ne3 c =
-    c.no_form-then-n-ne3.ensures ∙ ap stored (sym (stock-not _ _ _ _ c.numbers_at-n.ensures.0 c.if-n-s.false c.if-n-ne3.true))
+pub returns-in_err-warehouse : goal.returns-in_err-warehouse
+returns-in_err-warehouse c =
+    ap form_read c.from_residual.ensures ∙ stock-not _ (if_none _ _ (sym c.in_err-warehouse.was ∙ c.last_numbers.ensures))
 
 pub returns : goal.returns
-unfolding stored
-returns c =
-    c.plain.ensures ∙ ap stored (sym (stock-is _ _ _ _ c.numbers_at-n.ensures.0 c.if-n-s.false c.if-n-ne3.false))
+returns c = let r = if_some _ _ _ (sym c.in_ok-warehouse.was ∙ c.last_numbers.ensures) in stock-is _ _ r.0 r.1

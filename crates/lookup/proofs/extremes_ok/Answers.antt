@@ -1,14 +1,13 @@
-use Rattle.lookup.proofs.Extremes.{place-step, place_end}
-use Rattle.model.proofs.TestLaws.{all_none}
-use mathlib.Core.Path.{sym}
-use borrow.Author.Rules.{rules}
 use Rattle.lookup.proofs.extremes_ok.Goals as goal
-
-pub loop-j-init : goal.loop-j-init
-loop-j-init c = (search rules, sym (all_none _))
-
-pub loop-j-preserved : goal.loop-j-preserved
-loop-j-preserved c = (search rules, place-step _ _ _ c.loop-j.invariant.1)
+use Rattle.model.proofs.TestLaws.{and_same}
+use Rattle.std.proofs.Common.{rules, tests, refl}
+use Rattle.std.proofs.lemmas.Iterator.{YieldsList-from_slice}
+use Rattle.std.proofs.lemmas.Iterator.Search.{all_from_yields_List}
 
 pub returns : goal.returns
-returns c = place_end _ _ _ c.loop-j.invariant.0 c.loop-j-test.false c.loop-j.invariant.1
+returns c =
+    and_same
+    (and_same
+    (all_from_yields_List _ _ _ c.all-above.result c.all-above.ensures.ran (YieldsList-from_slice c.args.low.now cc) (λ x b q k. search (rules, tests)))
+    (all_from_yields_List _ _ _ c.all-below.result c.all-below.ensures.ran (YieldsList-from_slice c.args.high.now cc) (λ x b q k. search (rules, tests))))
+    refl

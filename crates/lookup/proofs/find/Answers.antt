@@ -1,35 +1,28 @@
-use Rattle.lookup.proofs.Bytes.{padded-long}
 use Rattle.lookup.proofs.Bridge.{namesakes-from}
 use Rattle.lookup.proofs.Inserting.{taken_none, taken_at}
 use Rattle.model.specs.Names.{found}
-use Rattle.model.specs.declared.Found.TheVariants.{Customer}
-use borrow.Author.Tests.{le-leb, lt-leb}
+use Rattle.std.proofs.Common.{rules, sym, ◌∙◌, ◌≡◌}
+use mathlib.Core.Bool.{◌&&◌}
+use lib.Dec.{leb}
 use lib.ListN.{length}
-use mathlib.Core.Path.{sym, ap, ◌∙◌}
-use borrow.Author.Rules.{rules}
 use Rattle.lookup.proofs.find.Goals as goal
+use Rattle.lookup.proofs.find.Goals.{After-contains}
 
-pub returns-then-name-lt1 : goal.returns-then-name-lt1
+fits : (c : After-contains) → c.contains.result ≡ (leb 1 (length c.args.name.now) && leb (length c.args.name.now) 16)
+fits c = search rules
+
+pub returns-then-not-contains : goal.returns-then-not-contains
 unfolding found
-returns-then-name-lt1 c = rw (lt-leb _ _ c.if-name-lt1.true)
-
-pub returns-then-name-gt16 : goal.returns-then-name-gt16
-unfolding found
-returns-then-name-gt16 c = rw (le-leb _ _ c.if-name-lt1.false, lt-leb _ _ c.if-name-gt16.true)
-
-pub slice_bounds-gather-end : goal.slice_bounds-gather-end
-slice_bounds-gather-end c = sym (ap length c.pad.ensures ∙ padded-long _ c.if-name-gt16.false)
-
-pub gather-n-requires : goal.gather-n-requires
-gather-n-requires c =
-    (search rules, (search rules, (ap length c.pad.ensures ∙ padded-long _ c.if-name-gt16.false, search rules)))
+returns-then-not-contains c = rw (sym (fits (goal.at.returns-then-not-contains c).After-contains) ∙ c.if-not-contains.true)
 
 pub returns-then-n-eq0 : goal.returns-then-n-eq0
 unfolding found
 returns-then-n-eq0 c =
-    rw (le-leb _ _ c.if-name-lt1.false, le-leb _ _ c.if-name-gt16.false, ← c.pad.ensures) (taken_none _ _ _ c.if-n-eq0.true (c.gather-n.ensures.1 ∙ namesakes-from _ _ _ _ c.name_base-base.ensures.0 _))
+    rw (sym (fits (goal.at.returns-then-n-eq0 c).After-contains) ∙ c.if-not-contains.false, ← c.pad.ensures)
+    (taken_none _ _ _ c.if-n-eq0.true (rw (c.names_of.ensures.0, c.names_of.ensures.1.1) at c.gather-n.ensures.1 ∙ namesakes-from _ _ _ _ c.names_of.ensures.1.0 _))
 
 pub returns : goal.returns
 unfolding found
 returns c =
-    ap Customer c.wide.ensures ∙ rw (le-leb _ _ c.if-name-lt1.false, le-leb _ _ c.if-name-gt16.false, ← c.pad.ensures) (taken_at c.gather-n.new.list _ c.gather-n.result (c.gather-n.ensures.1 ∙ namesakes-from _ _ _ _ c.name_base-base.ensures.0 _) (search rules) (search rules))
+    rw (sym (fits (goal.at.returns c).After-contains) ∙ c.if-not-contains.false, ← c.pad.ensures, c.from.ensures)
+    (taken_at c.gather-n.new.list _ c.gather-n.result (rw (c.names_of.ensures.0, c.names_of.ensures.1.1) at c.gather-n.ensures.1 ∙ namesakes-from _ _ _ _ c.names_of.ensures.1.0 _) (search rules) (search rules))

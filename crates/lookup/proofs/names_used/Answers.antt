@@ -3,4 +3,4 @@ use mathlib.Core.Path.{◌∙◌}
 use Rattle.lookup.proofs.names_used.Goals as goal
 
 pub returns : goal.returns
-returns c = c.names_ok.ensures ∙ names-from _ _ _ _ c.name_base.ensures.0
+returns c = rw (c.names_of.ensures.0, c.names_of.ensures.1.1) at c.names_ok.ensures ∙ names-from _ _ _ _ c.names_of.ensures.1.0

@@ -4,18 +4,15 @@ use Rattle.model.specs.Queue.{first_in, run_request}
 use Rattle.queue.proofs.Steps.{uncounted, cramped, carried}
 use Rattle.std.proofs.Common.{ap}
 use mathlib.Core.Bool.{not}
+use Rattle.queue.proofs.run_first.Goals.{then-not-within-via-then-not-within, then-not-within-via-else-not-within+then-buffer-lt400}
 use Rattle.queue.proofs.run_first.Goals as goal
 
 pub returns-then-not-within : goal.returns-then-not-within
 returns-then-not-within c =
-    uncounted _ _ _ _ _ _ (sym c.within.ensures ∙ not-true _ (ap not c.if-not-within.true)) c.not_run.ensures
-
-pub returns-then-buffer-lt400 : goal.returns-then-buffer-lt400
-returns-then-buffer-lt400 c =
-    cramped _ _ _ _ _ _ (sym c.within.ensures ∙ not-false _ (ap not c.if-not-within.false)) (lt-leb 400 _ c.if-buffer-lt400.true) c.not_run-then-buffer-lt400.ensures
-
-pub moved_up-queue-requires : goal.moved_up-queue-requires
-moved_up-queue-requires c = sym c.within.ensures ∙ not-false _ (ap not c.if-not-within.false)
+    elim c.then-not-within.branch [
+      | then-not-within-via-then-not-within w ↦ uncounted _ _ _ _ _ _ (sym c.within.ensures ∙ not-true _ (ap not w.if-not-within.true)) c.not_run.ensures
+      | then-not-within-via-else-not-within+then-buffer-lt400 w ↦ cramped _ _ _ _ _ _ (sym c.within.ensures ∙ not-false _ (ap not w.if-not-within.false)) (lt-leb 400 _ w.if-buffer-lt400.true) c.not_run.ensures
+    ]
 
 pub returns : goal.returns
 unfolding first_in run_request

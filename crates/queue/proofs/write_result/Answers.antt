@@ -1,5 +1,3 @@
-use mathlib.Core.Path.{◌∙◌}
-use lib.ListN.{length-set}
 use Rattle.model.specs.Queue.{result_line}
 use Rattle.text.proofs.Putting.{fields_then, at_front}
 use Rattle.queue.proofs.Steps.{fields-line}
@@ -10,24 +8,20 @@ use Rattle.queue.proofs.write_result.Goals as goal
 pub put_digits-first-requires : goal.put_digits-first-requires
 put_digits-first-requires c = omega (arith, c.requires, dec_most c.args.x.date)
 
-pub put_three-p-requires : goal.put_three-p-requires
-put_three-p-requires c =
+pub put_numbers-p-requires : goal.put_numbers-p-requires
+put_numbers-p-requires c =
     omega (arith, c.requires, dec_most c.args.x.date, c.put_digits-first.ensures.place, c.put_digits-first.auto)
 
 pub put_end-end-requires : goal.put_end-end-requires
 put_end-end-requires c =
-    omega (arith, c.requires, dec_most c.args.x.date, c.put_digits-first.ensures.place, c.put_digits-first.auto, c.put_three-p.ensures.1, c.put_three-p.auto)
+    omega (arith, c.requires, dec_most c.args.x.date, c.put_digits-first.ensures.place, c.put_digits-first.auto, c.put_numbers-p.ensures.1, c.put_numbers-p.auto)
 
 pub bounds-buffer-end : goal.bounds-buffer-end
 bounds-buffer-end c =
-    omega (arith, c.requires, dec_most c.args.x.date, c.put_digits-first.ensures.place, c.put_digits-first.auto, c.put_three-p.ensures.1, c.put_three-p.auto, c.put_end-end.ensures.1, c.put_end-end.auto.buffer)
-
-pub shape_of-buffer : goal.shape_of-buffer
-shape_of-buffer c =
-    simp length-set (c.put_end-end.auto.buffer ∙ c.put_three-p.auto.line ∙ c.put_digits-first.auto.line)
+    omega (arith, c.requires, dec_most c.args.x.date, c.put_digits-first.ensures.place, c.put_digits-first.auto, c.put_numbers-p.ensures.1, c.put_numbers-p.auto, c.put_end-end.ensures.1, c.put_end-end.auto.buffer)
 
 pub returns : goal.returns
 unfolding result_line
 returns c =
-    let w = fields-line _ _ _ _ _ _ _ c.put_digits-first.ensures (fields_then _ _ _ _ _ _ _ _ c.put_three-p.ensures.0 c.put_end-end.ensures.0) in
-    at_front _ _ _ _ w (omega (arith, w.place, c.requires, dec_most c.args.x.date, c.put_digits-first.ensures.place, c.put_three-p.ensures.1, c.put_end-end.ensures.1))
+    let w = fields-line _ _ _ _ _ _ _ c.put_digits-first.ensures (fields_then _ _ _ _ _ _ _ _ c.put_numbers-p.ensures.0 c.put_end-end.ensures.0) in
+    at_front _ _ _ _ w (omega (arith, w.place, c.requires, dec_most c.args.x.date, c.put_digits-first.ensures.place, c.put_numbers-p.ensures.1, c.put_end-end.ensures.1))

@@ -1,18 +1,18 @@
-use borrow.Author.Rules.{rules}
-use Rattle.text.proofs.Walk.{part_none, part_step, ends_at_byte, ends_at_end}
+use Rattle.std.proofs.Common.{rules, tests, arith, drop, length, eqb, not, ap, ◌∙◌, ℕ, ◌+◌, ◌-◌, length-drop}
+use Rattle.std.specs.Slice.Iter.{iter_rest}
+use Rattle.std.proofs.Math.Seq.{take_all}
+use Rattle.std.proofs.lemmas.Iterator.{YieldsList-from_slice}
+use Rattle.std.proofs.lemmas.Iterator.Consumers.{count_from_yields_List}
+use Rattle.std.proofs.lemmas.Iterator.Search.{YieldsList-from_take_while}
+use Rattle.std.proofs.lemmas.List.Folds.{length-prefix_len}
+use Rattle.text.proofs.Walk.{ends}
 use Rattle.text.proofs.field_end.Goals as goal
-
-pub loop-i-init : goal.loop-i-init
-loop-i-init c = (search rules, (search rules, part_none c.args.x c.args.s.now c.args.at))
-
-pub returns-then-s-i : goal.returns-then-s-i
-returns-then-s-i c =
-    ends_at_byte _ _ _ _ c.loop-i.invariant.0 c.loop-i-test.true c.loop-i.invariant.1.1 c.if-s-i.true
-
-pub loop-i-preserved : goal.loop-i-preserved
-loop-i-preserved c =
-    (search rules, (search rules, part_step _ _ _ _ c.loop-i.invariant.0 c.loop-i-test.true c.loop-i.invariant.1.1 c.if-s-i.false))
 
 pub returns : goal.returns
 returns c =
-    ends_at_end _ _ _ _ c.loop-i.invariant.0 c.loop-i.invariant.1.0 c.loop-i-test.false c.loop-i.invariant.1.1
+    let rest = drop c.args.at c.args.s.now in
+    let all = take_all (length c.args.s.now - c.args.at) rest (omega (arith, length-drop c.args.at c.args.s.now)) in
+    let n = count_from_yields_List _ c.count.result c.count.ensures.ran
+    (YieldsList-from_take_while _ (λ y. not (eqb y c.args.x)) (YieldsList-from_slice {s = c.take_while.result.iter} rest (ap iter_rest c.take_while.ensures.source ∙ c.iter.ensures.rest ∙ all))
+    c.take_while.ensures.closure c.take_while.ensures.done (λ x b q k. search (rules, tests))) in
+    ends c.args.x c.args.s.now c.args.at _ c.requires (ap (λ (k : ℕ). c.args.at + k) (n ∙ length-prefix_len (λ y. not (eqb y c.args.x)) rest))

@@ -1,45 +1,36 @@
-use borrow.Author.Rules.{rules}
-use Prim.Native.Nat.{◌≤◌, ◌<◌}
-use mathlib.Core.Path.{sym, ◌∙◌}
-use lib.ListN.{length}
-use native.Mathlib.Omega.{arith}
+use Rattle.std.proofs.Common.{◌≤◌, length, arith, sym, refl, ◌∙◌}
+use Rattle.std.proofs.lemmas.Bool.Decides.{nat_tests}
 use Rattle.model.proofs.DecimalLaws.{digit_in}
-use Rattle.text.proofs.Walk.{none-empty, none-long, none-zero, digits-all, digits_step, digits-stop, digits_end, power_step, power_top}
+use Rattle.text.proofs.Walk.{none-length, none-zero, digits-all, digits_step, digits-stop, digits_end, power_step}
 use Rattle.text.proofs.number_of.Goals as goal
 
-pub returns-then-n-lt1 : goal.returns-then-n-lt1
-returns-then-n-lt1 c = sym (none-empty _ c.if-n-lt1.true)
+pub returns-then-is_empty-f : goal.returns-then-is_empty-f
+returns-then-is_empty-f c = sym (none-length _ _ c.is_empty.ensures c.if-is_empty-f.true)
 
-pub returns-then-n-gt10 : goal.returns-then-n-gt10
-returns-then-n-gt10 c = sym (none-long _ c.if-n-lt1.false c.if-n-gt10.true)
+pub returns-then-f : goal.returns-then-f
+returns-then-f c =
+    let low : 1 ≤ length c.args.f.now = grind (arith, nat_tests) in
+    let high : length c.args.f.now ≤ 10 = grind (arith, nat_tests) in
+    sym (none-zero _ low high c.if-f.true)
 
-pub returns-then-n-f : goal.returns-then-n-f
-returns-then-n-f c = sym (none-zero _ c.if-n-lt1.false c.if-n-gt10.false c.if-n-f.true)
+pub loop-x-init : goal.loop-x-init
+loop-x-init c =
+    let low : 1 ≤ length c.args.f.now = grind (arith, nat_tests) in
+    let high : length c.args.f.now ≤ 10 = grind (arith, nat_tests) in
+    record { few = high; small = omega arith; same = digits-all _ low high c.if-f.false }
 
-pub loop-i-init : goal.loop-i-init
-loop-i-init c =
-    (search rules, (search rules, (search rules, (search rules, digits-all _ c.if-n-lt1.false c.if-n-gt10.false c.if-n-f.false))))
+pub returns-then-not-is_ascii_digit : goal.returns-then-not-is_ascii_digit
+returns-then-not-is_ascii_digit c =
+    sym (c.loop-x.invariant.same ∙ digits-stop _ _ _ _ c.loop-x-test.true refl (sym c.is_ascii_digit.ensures.value ∙ c.if-not-is_ascii_digit.true))
 
-pub overflow_mul-v : goal.overflow_mul-v
-overflow_mul-v c = omega (arith, power_top c.loop-i.v c.loop-i.i c.loop-i.invariant.1.1.1.0 (search rules))
-
-pub overflow_sub-v : goal.overflow_sub-v
-overflow_sub-v c =
-    omega (arith, (digit_in c.wide-x.result (sym c.is_digit.ensures ∙ c.if-is_digit.true)).low)
-
-pub overflow_add-v : goal.overflow_add-v
-overflow_add-v c =
-    omega (arith, power_top c.loop-i.v c.loop-i.i c.loop-i.invariant.1.1.1.0 (search rules), (digit_in c.wide-x.result (sym c.is_digit.ensures ∙ c.if-is_digit.true)).high)
-
-pub returns-else-is_digit : goal.returns-else-is_digit
-returns-else-is_digit c =
-    let h : c.loop-i.i < length c.args.f.now = search rules in sym (c.loop-i.invariant.1.1.1.1 ∙ digits-stop _ _ _ _ h c.wide-x.ensures (sym c.is_digit.ensures ∙ c.if-is_digit.false))
-
-pub loop-i-preserved : goal.loop-i-preserved
-loop-i-preserved c =
-    let h : c.loop-i.i < length c.args.f.now = search rules in
-    (search rules, (search rules, (search rules, (power_step _ _ _ c.loop-i.invariant.1.1.1.0 (digit_in _ (sym c.is_digit.ensures ∙ c.if-is_digit.true)), c.loop-i.invariant.1.1.1.1 ∙ digits_step _ _ _ _ h c.wide-x.ensures (sym c.is_digit.ensures ∙ c.if-is_digit.true)))))
+pub loop-x-preserved : goal.loop-x-preserved
+loop-x-preserved c =
+    let d = sym c.is_ascii_digit.ensures.value ∙ c.if-not-is_ascii_digit.false in
+    record {
+      few = c.loop-x.invariant.few;
+      small = rw c.from.ensures (power_step _ _ _ c.loop-x.invariant.small (digit_in _ d));
+      same = rw c.from.ensures (c.loop-x.invariant.same ∙ digits_step _ _ _ _ c.loop-x-test.true refl d);
+    }
 
 pub returns : goal.returns
-returns c =
-    let h : length c.args.f.now ≤ c.loop-i.i = search rules in sym (c.loop-i.invariant.1.1.1.1 ∙ digits_end _ _ _ h)
+returns c = sym (c.loop-x.invariant.same ∙ digits_end _ _ _ c.loop-x-test.false)

@@ -1,6 +1,7 @@
+use Rattle.std.proofs.Math.Bool.{and_assoc, and-true}
 use Rattle.model.specs.RequestLine.{has_form}
 use Rattle.writing.proofs.delivery_ok.Goals as goal
 
 pub returns : goal.returns
 unfolding has_form
-returns c = rw (c.small.ensures, c.small-2.ensures, c.small-3.ensures)
+returns c = rw c.small.ensures (simp (and_assoc, and-true))

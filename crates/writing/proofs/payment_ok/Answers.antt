@@ -1,7 +1,7 @@
+use Rattle.std.proofs.Math.Bool.{and_assoc, and-true}
 use Rattle.model.specs.RequestLine.{has_form}
 use Rattle.writing.proofs.payment_ok.Goals as goal
 
 pub returns : goal.returns
 unfolding has_form
-returns c =
-    rw (c.small.ensures, c.small-2.ensures, c.small-3.ensures, c.small-4.ensures, c.who_ok.ensures, c.small-5.ensures, c.small-6.ensures)
+returns c = rw (c.small.ensures, c.who_ok.ensures, c.small-2.ensures) (simp (and_assoc, and-true))

@@ -1,4 +1,0 @@
-use Rattle.capi.proofs.book_write_order_status.Goals as goal
-
-pub returns : goal.returns
-returns c = rw (← c.selection-who.ensures) c.write_bare.ensures

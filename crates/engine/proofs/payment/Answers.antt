@@ -1,9 +1,0 @@
-use mathlib.Core.Path.{refl}
-use Rattle.model.specs.Request.{answer_of, orders_of, shown_part, nums_after, last_after, notes_after}
-use borrow.Author.Rules.{rules}
-use Rattle.engine.proofs.payment.Goals as goal
-
-pub returns : goal.returns
-unfolding answer_of orders_of shown_part nums_after last_after notes_after
-returns c last topup =
-    record { kind = refl; says = c.payment-a.ensures.says; orders = refl; within = search rules; shows = refl; leaves = rw (c.payment-a.ensures.leaves, c.payment-a.ensures.writes) }

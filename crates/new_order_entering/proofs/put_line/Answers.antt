@@ -1,4 +1,0 @@
-use Rattle.new_order_entering.proofs.put_line.Goals as goal
-
-pub returns : goal.returns
-returns c = rw (c.put-5.ensures, c.put-4.ensures, c.put-3.ensures, c.put-2.ensures, c.put.ensures)

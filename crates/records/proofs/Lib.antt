@@ -1,2 +1,0 @@
--- The modules of the crate's proofs that belong to no one function.
-pub mod Arrays

@@ -1,2 +1,0 @@
--- What the contracts of the crate cite beside the model.
-pub mod Gathered

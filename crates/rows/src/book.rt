@@ -1,0 +1,11 @@
+ghost use Rattle.rows.specs.Book.{Booked};
+
+use model::Dims;
+
+// A book whose numbers are as many as its sizes imply, each size in its range.
+#[derive(Clone, Copy)]
+pub struct Book<'a> {
+    pub nums: &'a [i64],
+    pub dims: Dims,
+    ghost booked: { Booked dims nums.now },
+}
