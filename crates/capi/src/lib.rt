@@ -220,7 +220,7 @@ fn name_read<'a>(a: &ReadAnswer<'a>) -> &'a [u8]
     }
 }
 
-// A last name in an array of its own, zeros behind it.
+// A last name in an array of its own, zeros behind it: C's, with zeros where a search by name has spaces.
 fn padded(name: &[u8]) -> [u8; 16]
     requires { length name.now ≤ 16 }
     ensures { result ≡ name.now ++ replicate (16 - length name.now) 0 }

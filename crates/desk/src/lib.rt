@@ -164,6 +164,7 @@ fn serve(rt: &(impl Input + Print + Eprint + Clock), s: &mut Lent) -> Result<(),
     let mut block = [0u8; 4096];
     let mut line = [0u8; 1024];
     let mut len = 0;
+    // Counted, for nothing says that the input ends.
     for _ in 0..u64::MAX {
         let n = stdio::get(rt, &mut block)?;
         if n > 0 {

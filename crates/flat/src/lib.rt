@@ -14,7 +14,7 @@ use model::{
     Refused, Selection, StatusFigures, StockLevelFigures,
 };
 
-// Who: by the lent last name, or by the number.
+// Who, as C gives it: by the lent last name, or by the number.
 pub fn selection(named: bool, number: u64, name: &[u8]) -> Selection<'_>
     ensures { who_of result ≡ selection_of named number name.now }
 {

@@ -219,7 +219,7 @@ pub fn order_at(d: Dims, w: u64, k: u64, o: u64) -> u64
     order_base(d) + 81 * (block + (slot - 1))
 }
 
-// Rows of orders that follow each other: where the first starts, and how many they are.
+// Rows of orders that follow each other: where the first starts, and how many they are (a `Part` counts numbers).
 #[derive(Clone, Copy)]
 pub struct Run {
     pub at: u64,

@@ -60,7 +60,7 @@ pub struct Waiting {
     pub carrier: u64,
 }
 
-// R-5: how many wait, and their places, the oldest first.
+// R-5: how many wait, and their places, the oldest first. C's struct.
 #[repr(C)]
 #[derive(Clone, Copy)]
 pub struct Queue {
@@ -90,7 +90,7 @@ pub enum Selection<'a> {
 }
 
 // Why a request is refused, in the order of the papers' numbers. `Range` and `Item` have the place of the first offending line, from 1; `Range` has 0 where a
-// number of the request itself is out of range.
+// number of the request itself is out of range: 0 and no Option, for that is the papers' detail.
 #[derive(Clone, Copy, Debug, PartialEq, Eq)]
 pub enum Refused {
     NoForm,
@@ -149,6 +149,7 @@ impl Refused {
     }
 }
 
+// The answers: a struct for each call, as the papers ask; the definitions of each call name its own.
 #[derive(Clone, Copy)]
 pub struct OpeningAnswer {
     pub outcome: Result<(), Refused>,
@@ -184,7 +185,7 @@ pub struct DeliveryFigures {
     pub mark: u64,
 }
 
-// The ten order numbers stand beside the outcome.
+// The ten order numbers stand beside the outcome, as the papers have them.
 #[derive(Clone, Copy)]
 pub struct DeliveryAnswer {
     pub outcome: Result<DeliveryFigures, Refused>,
@@ -238,7 +239,8 @@ pub enum RequestOutcome {
     StockLevel(Result<StockLevelFigures, Refused>),
 }
 
-// Beside the outcome stand Delivery's ten order numbers, 0 for any other request, and the part of the book that a status shows, empty for any other.
+// Beside the outcome stand Delivery's ten order numbers, 0 for any other request, and the part of the book that a status shows, empty for any other: the papers
+// have both beside it.
 #[derive(Clone, Copy)]
 pub struct RequestAnswer {
     pub outcome: RequestOutcome,
@@ -246,7 +248,8 @@ pub struct RequestAnswer {
     pub part: Part,
 }
 
-// A request as reading stores it: its form, and beside it the lines, of which those in use are part of the request.
+// A request as reading stores it: its form, and beside it the lines, of which those in use are part of the request. Reading returns the array that it has filled,
+// and a form could not borrow it.
 #[derive(Clone, Copy)]
 pub enum Form<'a> {
     NewOrder(NewOrder),
@@ -256,7 +259,7 @@ pub enum Form<'a> {
     StockLevel(StockLevel),
 }
 
-// The lines of a New-Order: the first `count`.
+// The lines of a New-Order: the first `count` (no heap).
 #[derive(Clone, Copy)]
 pub struct Lines {
     pub count: usize,

@@ -19,7 +19,7 @@ ghost use Rattle.order_status.specs.Seen.{last_tests, shown_of, ShownCall};
 use model::{Dims, OrderStatus, Part, Refused, Selection, StatusFigures};
 use rows::Book;
 
-// A customer and its last order; order 0 where it has none.
+// A customer and its last order; order 0 where it has none, as the lent last orders and the figures have it.
 #[derive(Clone, Copy)]
 pub struct Seen {
     pub customer: u64,

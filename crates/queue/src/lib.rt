@@ -1,4 +1,5 @@
-// R-5: Deliveries that wait their turn. Each step takes the waiting list by value and hands it back; the two calls are lent it.
+// R-5: Deliveries that wait their turn. Each step takes the waiting list by value and hands it back with its answer; the two calls are lent it. The papers name
+// this form.
 #![tactic(auto)]
 
 ghost use Rattle.std.specs.Prelude.{◌≡◌, true, ◌+◌, ◌≤◌, length};

@@ -19,7 +19,7 @@ use std::rt::{Clock, Files};
 use std::time::Duration;
 use std::{fs, io, thread};
 
-// Linux's numbers of two errors: a signal came, and the call would have had to wait.
+// Linux's numbers of two errors: a signal came, and the call would have had to wait. What is promised of them (`is_passing`) is of the numbers.
 const EINTR: i32 = 4;
 
 const EAGAIN: i32 = 11;
@@ -93,6 +93,7 @@ pub fn put_to<W: Write>(rt: &(impl Eprint + Clock), out: &mut W, bytes: &[u8]) -
     ensures part { (k : ℕ) × (k ≤ length bytes.now) × Appends (W.contents out.old) (W.contents out.new) (take k bytes.now) }
 {
     let mut rest = bytes;
+    // Counted, for nothing says that a writer takes all at some time.
     for _ in 0..u64::MAX {
         if rest.is_empty() {
             return Ok(());

@@ -15,7 +15,7 @@ use model::{Dims, Refused, StockLevel, StockLevelAnswer, StockLevelFigures};
 use rows::Book;
 use std::marker::Model;
 
-// Items noted, in the order in which they were met: the first `count` of as many as twenty orders have lines.
+// Items noted, in the order in which they were met: the first `count` of as many as twenty orders have lines (no heap).
 #[derive(Drop)]
 pub struct Noted {
     items: [u64; 300],

@@ -101,7 +101,7 @@ pub fn field_end(s: &[u8], at: usize, x: u8) -> usize
     at + s[at..].iter().take_while(|y| **y != x).count()
 }
 
-// The number that a field holds.
+// The number that a field holds. `parse` takes a plus sign and leading zeros too.
 pub fn number_of(f: &[u8]) -> Option<u64>
     ensures { result ≡ number_read f.now }
 {

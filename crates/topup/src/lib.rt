@@ -38,7 +38,7 @@ pub fn table_ok(topup: &[i64], d: Dims) -> bool
     topup.len() as u64 == 2 * d.items && rows_ok(topup, d.items)
 }
 
-// An item's margin.
+// An item's margin, and below its lift: a line each, by the model's own word.
 pub fn margin_of(topup: &[i64], d: Dims, item: u64) -> u64
     requires { Dimensioned d × (Tabled d topup.now × R d.items item) }
     ensures { result ≡ margin_of topup.now item }
