@@ -3,13 +3,13 @@
 use Rattle.std.proofs.Math.Bool.{and_assoc, and-true}
 use mathlib.Core.Path.{◌≡◌, refl, sym, ap, ◌∙◌, subst}
 use mathlib.Core.Bool.{Bool, true, false, ◌&&◌}
-use mathlib.Core.List.{List, [], ◌∷◌, ◌++◌, append_assoc}
+use mathlib.Core.List.{List, [], ◌∷◌, ◌++◌}
 use Prim.Native.Nat.{ℕ, ◌+◌, ◌≤◌, ◌<◌}
 use native.Mathlib.Numerals.{add-one}
 use native.Mathlib.Omega.{arith}
 use lib.Dec.{leb}
-use lib.ListN.{length, get_or, take, drop}
-use lib.Seq.{sets-eq, take-suc, take_all, drop-drop}
+use lib.ListN.{length, get_or, take, drop, set}
+use lib.Seq.{paste, paste-suc, take-length, sets-eq, take-suc, take_all}
 use borrow.Author.Tests.{leb-true, le-leb, lt-leb}
 use Rattle.std.specs.List.{list_all}
 use Rattle.std.proofs.Common.{Ok, Err}
@@ -44,10 +44,12 @@ put_more lines d l m k at p q i h a b =
 pub put_all : (lines : List Line) (l m : List ℕ) (at p i : ℕ) → length lines ≤ i → Wrote l m at p (tabbed (line_fields (take i lines))) → Wrote l m at p (tabbed (line_fields lines))
 put_all lines l m at p i h a = subst (λ (ls : List Line). Wrote l m at p (tabbed (line_fields ls))) (take_all i lines h) a
 
--- a name, by its copy
-pub copied : (d : List ℕ) (at : ℕ) (f ys : List ℕ) (k : ℕ) → ys ≡ f → k ≡ length f → at + length f ≤ length d → Wrote d (take at d ++ (ys ++ drop k (drop at d))) at (at + length f) f
-copied d at f ys k e l h =
-    record { same = rw (e, l, drop-drop (length f) at d) (sym (sets-eq f d at h ∙ append_assoc (take at d) f (drop (at + length f) d))); place = refl }
+-- a name, by its bytes
+pub copy_step : (d : List ℕ) (at : ℕ) (s b : List ℕ) (i : ℕ) → at + i < length d → i < length s → b ≡ paste d at s i → set b (at + i) (get_or s i 0) ≡ paste d at s (i + 1)
+copy_step d at s b i h k e = rw (e, add-one i) (paste-suc d at s i 0 h k)
+
+pub copied : (d : List ℕ) (at : ℕ) (f : List ℕ) → at + length f ≤ length d → Wrote d (paste d at f (length f)) at (at + length f) f
+copied d at f h = record { same = ap (λ (g : List ℕ). take at d ++ g ++ drop (at + length f) d) (take-length f) ∙ sym (sets-eq f d at h); place = refl }
 
 -- ── tests ──
 pub all_is : {A : Type 0} (f : A → Bool) (xs : List A) → list_all f xs ≡ all_of f xs

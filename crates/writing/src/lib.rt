@@ -32,9 +32,11 @@ fn put_name(line: &mut [u8], at: usize, name: &[u8]) -> usize
 {
     line[at] = b'\t';
     line[at + 1] = b'=';
-    let end = at + 2 + name.len();
-    line[at + 2..end].copy_from_slice(name);
-    end
+    // Byte by byte, since a name may lie anywhere: `copy_from_slice` calls memmove for it, which nothing else in the library for C does.
+    for i in 0..name.len() {
+        line[at + 2 + i] = name[i];
+    }
+    at + 2 + name.len()
 }
 
 // A tab and who.
@@ -164,10 +166,8 @@ fn payment_ok(q: Payment, who: Selection) -> bool
 fn new_order_ok(q: NewOrder, lines: &[Line]) -> bool
     ensures { result ≡ has_form (new_order q lines.now) }
 {
-    small(&[q.warehouse, q.district, q.customer, q.date])
-        & (1 <= lines.len())
-        & (lines.len() <= 15)
-        & lines.iter().all(|l| small(&[l.item, l.supply, l.quantity]))
+    small(&[q.warehouse, q.district, q.customer, q.date]) & (1 <= lines.len()) & (lines.len() <= 15)
+        && lines.iter().all(|l| small(&[l.item, l.supply, l.quantity]))
 }
 
 // A request has a form.
