@@ -34,6 +34,16 @@ module _ (d : Dims) (o : Dimensioned d) where
   unfolding all_orders
   orders_max = prod_le (10 * d.warehouses) d.orders 200 10000 (omega arith) o.orders_high
 
+  -- the rows before a district's first, and before a warehouse's first stock
+  pub customer_block : (w k : ℕ) → R d.warehouses w → R 10 k → (10 * (w - 1) + (k - 1)) * d.customers ≤ 600000
+  customer_block w k r s = prod_le (10 * (w - 1) + (k - 1)) d.customers 200 3000 (omega arith) o.customers_high
+
+  pub order_block : (w k : ℕ) → R d.warehouses w → R 10 k → (10 * (w - 1) + (k - 1)) * d.orders ≤ 2000000
+  order_block w k r s = prod_le (10 * (w - 1) + (k - 1)) d.orders 200 10000 (omega arith) o.orders_high
+
+  pub stock_block : (w : ℕ) → R d.warehouses w → (w - 1) * d.items ≤ 2000000
+  stock_block w r = prod_le (w - 1) d.items 20 100000 (omega arith) o.items_high
+
 module _ (d : Dims) where
   pub numbers-is : history_base d + 7 * d.histories ≡ numbers d
   unfolding numbers all_customers all_stocks all_orders

@@ -7,6 +7,7 @@ use Prim.Native.Nat.{ℕ, ◌+◌, ◌-◌, ◌*◌, ◌≤◌, ◌<◌}
 use native.Mathlib.Omega.{arith}
 use lib.Dec.{leb}
 use lib.IntN.{ℤ}
+use lib.ListN.{length}
 use borrow.Author.Tests.{leb-false}
 use Rattle.model.specs.declared.Dims.{Dims}
 use Rattle.model.specs.Tests.{every, all_to}
@@ -18,9 +19,9 @@ use Rattle.model.specs.StockLevel.{window_first, window_count, window_used}
 use Rattle.model.specs.Claim.{R}
 use Rattle.model.proofs.TestLaws.{all_same}
 use Rattle.layout.specs.declared.Run.{Run}
-use Rattle.layout.specs.Runs.{row_in, RunOf}
+use Rattle.layout.specs.Runs.{row_in, RunOf, RowsIn}
 use Rattle.layout.proofs.Bounds.{customer-is, item-is, stock-is}
-use Rattle.rows.specs.Book.{ok_at, orders_from}
+use Rattle.rows.specs.Book.{Booked, ok_at, orders_from}
 use Rattle.rows.proofs.RowTests.{customer_test, stock_test, order_test}
 
 module _ (d : Dims) where
@@ -56,6 +57,9 @@ unfolding ok_at
 row_test d b run i e f = let q : i + 1 - 1 ≡ i = omega arith in rw (q, ← e) f
 
 module _ (d : Dims) (b : List ℤ) (w k first n : ℕ) {run : Run} (r : RunOf d w k first n run) where
+  pub rows_in : Booked d b → RowsIn run (length b)
+  rows_in v i h = omega (arith, r.ends i (omega (arith, h, r.count)), v.long)
+
   run_test : (j : ℕ) → R n j → ok_at d b run j ≡ order_used d b w k (first + (j - 1))
   unfolding ok_at
   run_test j t = order_test d b w k (first + (j - 1)) (r.each (j - 1) (omega (arith, t.lo, t.hi))) refl

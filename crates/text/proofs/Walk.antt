@@ -5,7 +5,7 @@ use mathlib.Core.Bool.{Bool, true, false, ◌&&◌, ◌||◌, not, cond}
 use mathlib.Core.List.{List, [], ◌∷◌}
 use Prim.Native.Nat.compare
 use Prim.Native.Nat.{ℕ, suc, ◌+◌, ◌-◌, ◌*◌, ◌^◌, ◌≤◌, ◌<◌}
-use native.Mathlib.Nat.{pow-succ'}
+use native.Mathlib.Nat.{pow-succ', pow-le-pow_right, lt_of_lt_of_le}
 use native.Mathlib.Numerals.{add-one}
 use native.Mathlib.Omega.{arith}
 use lib.Dec.{eqb, ltb}
@@ -105,6 +105,12 @@ digits_end f v i h = rw (drop_of_length-le f h)
 -- one digit more keeps the bound
 pub power_step : (v i x : ℕ) → v < 10 ^ i → Digit x → v * 10 + (x - 48) < 10 ^ (i + 1)
 power_step v i x h d = rw (add-one i) (omega (arith, pow-succ' 10 i, d.low, d.high))
+
+pub power_top : (v i : ℕ) → v < 10 ^ i → i < 10 → v < 1000000000
+power_top v i h k =
+    let nine : i ≤ 9 = omega arith in
+    let top : 10 ^ i ≤ 10 ^ 9 = pow-le-pow_right (omega arith) nine in
+    lt_of_lt_of_le h top
 
 -- ── a number at a position ──
 pub none-past : (s : List ℕ) (at : ℕ) → length s < at → has_number (fields_from s at) ≡ false
