@@ -6,7 +6,7 @@
 #[cfg(test)]
 mod tests;
 
-ghost use Rattle.std.specs.Prelude.{◌≡◌, ℕ, ◌≤◌, length, take, pos, unwrap_or, is_ok, IsOk, IfOk, OnOk};
+ghost use Rattle.std.specs.Prelude.{◌≡◌, ℕ, ◌≤◌, length, take, pos, unwrap_or, is_ok, IsOk, IfOk, OnOk, IsOkUnless};
 ghost use Rattle.std.specs.IoError.{raw_os_error};
 ghost use Rattle.std.specs.Io.KnownBytes.{Keeps, Appends, WriteAppends, ReadConsumes};
 ghost use Rattle.stdio.specs.Counts.{IsPrefixLen};
@@ -166,7 +166,9 @@ fn is_file(rt: &impl Files) -> bool {
 }
 
 // Ends standard output, for some errors show only there. Where that fails says so.
-pub fn close(rt: &(impl Files + Eprint), out: &impl AsFd) -> Result<(), Failed> {
+pub fn close(rt: &(impl Files + Eprint), out: &impl AsFd) -> Result<(), Failed>
+    ensures { IsOkUnless result (record {}) }
+{
     settle(rt, out).map_err(|error| {
         fail(rt, "book: standard output", error);
         Failed
